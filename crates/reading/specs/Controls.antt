@@ -1,0 +1,105 @@
+-- What the directives of a transaction have set (`TransactionControls`), as lists without a limit.
+use Prim.Native.Nat.{ℕ, zero, suc}
+use mathlib.Core.Bool.{Bool, true, false, cond, _&&_, _||_}
+use mathlib.Core.List.{List, [], _∷_, _++_}
+use lib.ListN.{length, getD}
+use lib.Dec.{ltb, leb}
+use Rattle.reading.specs.declared.RuleEngineMode.{RuleEngineMode}
+use Rattle.reading.specs.declared.BodyAccess.{BodyAccess}
+use Rattle.reading.specs.declared.BodyProcessor.{BodyProcessor}
+use Rattle.reading.specs.declared.ModeSetting.{ModeSetting}
+use Rattle.reading.specs.declared.AccessSetting.{AccessSetting}
+use Rattle.reading.specs.declared.ProcessorSetting.{ProcessorSetting}
+use Rattle.reading.specs.declared.RuleIdRange.{RuleIdRange}
+use Rattle.reading.specs.declared.Place.{Place}
+use Rattle.reading.specs.declared.OptionU64.{OptionU64}
+use Rattle.reading.specs.Lists.{any}
+use Rattle.reading.specs.Directive.{Directive, ruleEngine, ruleRemoveById, ruleRemoveTargetById, requestBodyAccess, requestBodyProcessor, unsupported}
+
+-- 01: "Addresses, msg and targets are likewise kept as phase and action position."
+pub record Controls : Type 0 where
+  pub mode : ModeSetting
+  pub ranges : List RuleIdRange
+  pub targets : List Place
+  pub access : AccessSetting
+  pub processor : ProcessorSetting
+
+-- nothing set
+abbrev pub noControls : Controls
+noControls = record { mode = ModeSetting.Unset; ranges = []; targets = []; access = AccessSetting.Unset; processor = ProcessorSetting.Unset }
+
+-- 01: "the last mode, body access or processor wins. Ranges and targets are added at the end.", and an unsupported
+-- directive "changes nothing". The place is that of the ctl action.
+abbrev pub applied : Controls → Place → Directive → Controls
+applied c at (ruleEngine m) =
+    record { mode = ModeSetting.Set m; ranges = c .ranges; targets = c .targets; access = c .access; processor = c .processor }
+applied c at (ruleRemoveById rs) =
+    record { mode = c .mode; ranges = c .ranges ++ rs; targets = c .targets; access = c .access; processor = c .processor }
+applied c at (ruleRemoveTargetById id target) =
+    record { mode = c .mode; ranges = c .ranges; targets = c .targets ++ (at ∷ []); access = c .access; processor = c .processor }
+applied c at (requestBodyAccess a) =
+    record { mode = c .mode; ranges = c .ranges; targets = c .targets; access = AccessSetting.Set a; processor = c .processor }
+applied c at (requestBodyProcessor p) =
+    record { mode = c .mode; ranges = c .ranges; targets = c .targets; access = c .access; processor = ProcessorSetting.Set p }
+applied c at unsupported = c
+
+-- 01: "the one set last .., else the rule set's"
+abbrev pub modeOr : RuleEngineMode → ModeSetting → RuleEngineMode
+modeOr configured ModeSetting.Unset = configured
+modeOr configured (ModeSetting.Set m) = m
+
+abbrev pub isOff : RuleEngineMode → Bool
+isOff RuleEngineMode.On = false
+isOff RuleEngineMode.DetectionOnly = false
+isOff RuleEngineMode.Off = true
+
+abbrev pub isOn : RuleEngineMode → Bool
+isOn RuleEngineMode.On = true
+isOn RuleEngineMode.DetectionOnly = false
+isOn RuleEngineMode.Off = false
+
+-- 01: "Both ends of a range are removed." The manual's reading too.
+abbrev pub inRange : ℕ → RuleIdRange → Bool
+inRange id r = leb (r .start) id && leb id (r .end)
+
+-- 01: "A rule without an id is never removed."
+unfoldable pub isRemoved : List RuleIdRange → OptionU64 → Bool
+isRemoved ranges OptionU64.None = false
+isRemoved ranges (OptionU64.Some id) = any (inRange id) ranges
+
+-- 01: "Body access is on until set."
+abbrev pub accessOf : AccessSetting → BodyAccess
+accessOf AccessSetting.Unset = BodyAccess.On
+accessOf (AccessSetting.Set a) = a
+
+-- 01: "Struct with arrays of start and end numbers and their count": the list that such arrays stand for
+abbrev pub rangeList : ℕ → List ℕ → List ℕ → List RuleIdRange
+rangeList zero starts ends = []
+rangeList (suc k) starts ends = rangeList k starts ends ++ (record { start = getD starts k 0; end = getD ends k 0 } ∷ [])
+
+abbrev pub targetList : ℕ → List ℕ → List ℕ → List Place
+targetList zero phases positions = []
+targetList (suc k) phases positions = targetList k phases positions ++ (record { phase = getD phases k 0; position = getD positions k 0 } ∷ [])
+
+-- QUESTIONS AND SINGLE ADDITIONS
+
+abbrev pub mostRanges : ℕ
+mostRanges = 256
+
+abbrev pub mostTargets : ℕ
+mostTargets = 64
+
+-- 01: refusal 3, "more than 256 ranges, more than 64 targets"
+unfoldable pub beyondLimits : Controls → Bool
+beyondLimits c = ltb mostRanges (length (c .ranges)) || ltb mostTargets (length (c .targets))
+
+-- 01: "Questions to the controls give only 3"
+abbrev pub questionAnswer : Controls → ℕ
+questionAnswer c = cond (beyondLimits c) 3 0
+
+-- 01: "a range or target added singly gives 3, 5 (start above end), then 8 or 9"
+unfoldable pub addRangeAnswer : Controls → RuleIdRange → ℕ
+addRangeAnswer c r = cond (beyondLimits c) 3 (cond (ltb (r .end) (r .start)) 5 (cond (leb mostRanges (length (c .ranges))) 8 0))
+
+unfoldable pub addTargetAnswer : Controls → ℕ
+addTargetAnswer c = cond (beyondLimits c) 3 (cond (leb mostTargets (length (c .targets))) 9 0)

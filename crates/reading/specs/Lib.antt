@@ -1,0 +1,17 @@
+pub mod Lists
+pub mod Text
+pub mod Directive
+pub mod Numbers
+pub mod Controls
+pub mod Actions
+pub mod Markers
+pub mod Reading
+pub mod Call
+pub mod Refusals
+pub mod Units
+pub mod Walk
+pub mod Replay
+pub mod Outcome
+pub mod Demand3
+pub mod Manual
+pub mod Theorems

@@ -1,0 +1,6 @@
+pub mod Replayed
+pub mod Rising
+pub mod Limits
+pub mod Answers
+pub mod Demands
+pub mod Readings

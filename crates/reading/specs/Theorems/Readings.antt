@@ -1,0 +1,96 @@
+-- Where the two readings, and the manual and the Rust, agree, so that docs/DIFFERENCES.md lists all that is left; and what
+-- does not depend on the reading.
+use Prim.Native.Nat.{ℕ, zero, suc, _+_, _≤_, _<_}
+use mathlib.Core.Path.{_≡_, refl, sym, ap, _∙_}
+use mathlib.Core.List.{List, [], _∷_}
+use mathlib.Core.Bool.{Bool, true, false, cond, _&&_, _||_}
+use native.Mathlib.Omega.{arith}
+use lib.ListN.{length, getD, drop}
+use lib.Seq.{drop-cons}
+use lib.Dec.{leb, ltb, eqb}
+use borrow.Author.Tests.{lt-ltb, le-ltb, le-leb, lt-leb, eq-eqb, ne-eqb, ltb-true, ltb-false, eqb-true, eqb-false}
+use Rattle.reading.specs.declared.RuleEngineMode.{RuleEngineMode}
+use Rattle.reading.specs.declared.OptionU64.{OptionU64}
+use Rattle.reading.specs.declared.DisruptiveOutcome.{DisruptiveOutcome}
+use Rattle.reading.specs.Controls.{Controls}
+use Rattle.reading.specs.Reading.{Reading, rust, manual, jumps, rustStatus, manualStatus}
+use Rattle.reading.specs.Call.{Call, ruleCount, ruleAt, isLink, noRule}
+use Rattle.reading.specs.Walk.{chainRest, afterChain, endingBy, isLast}
+use Rattle.reading.specs.Units.{isAllow, isStopping}
+use Rattle.reading.specs.Refusals.{refusalOf, refused1, refused2, refused3, refused4, refused5, refused6, refused7, refused8, refused9, ruleRanges, ruleTargets, rangesAdded, targetsAdded}
+use Rattle.reading.specs.Manual.{manualJumps, manualSkip, rustSkip, manualActs, rustActs, manualMatched, rustClosed}
+
+-- the manual's instance jumps as the manual says
+pub manual-jumps : (position after : ℕ) → jumps manual position after ≡ manualJumps position after
+manual-jumps position after = by (ltb after position) (eqb position after) refl refl
+  where
+    by : (a b : Bool) → ltb after position ≡ a → eqb position after ≡ b → (a || b) ≡ leb after position
+    by true b p e = sym (le-leb after position (omega (arith, ltb-true after position p)))
+    by false true p e = sym (le-leb after position (omega (arith, eqb-true position after e)))
+    by false false p e =
+        sym (lt-leb after position (below (ltb-false after position p) (eqb-false position after e)))
+      where
+        below : position ≤ after → (position ≡ after → ⊥) → position < after
+        below h n = omega arith
+
+-- the two jump alike but at the index after the closing rule
+pub jumps-agree : (position after : ℕ) → (position ≡ after → ⊥) → jumps rust position after ≡ jumps manual position after
+jumps-agree position after h = rw (ne-eqb position after h)
+
+-- deny has one status in both where the starter has no status action
+pub status-agrees : rustStatus OptionU64.None ≡ manualStatus OptionU64.None
+status-agrees = refl
+
+-- skip passes as many in both where no link lies ahead
+link-is : (q : Call) (i : ℕ) → i < ruleCount q → isLink q i ≡ false → afterChain q i ≡ i + 1
+unfolding isLink ruleAt afterChain
+link-is q i h e = rw (drop-cons (q .rules) i noRule h, e)
+
+pub skips-agree : (q : Call) (after n : ℕ) → after + n ≤ ruleCount q → ((j : ℕ) → after ≤ j → j < after + n → isLink q j ≡ false)
+    → manualSkip q after n ≡ rustSkip after n
+unfolding manualSkip
+skips-agree q after zero h none-ahead = omega arith
+skips-agree q after (suc n) h none-ahead =
+    let z : (after + 1) + n ≡ after + suc n = omega arith in
+    rw (link-is q after (omega arith) (none-ahead after (omega arith) (omega arith)))
+    (skips-agree q (after + 1) n (omega arith) (λ j a b. none-ahead j (omega arith) (omega arith)) ∙ z)
+
+-- disruptive actions act alike in On, and all but allow in every mode
+pub acts-agree-on : (d : DisruptiveOutcome) → manualActs RuleEngineMode.On d ≡ rustActs RuleEngineMode.On d
+acts-agree-on DisruptiveOutcome.Nothing = refl
+acts-agree-on DisruptiveOutcome.Deny = refl
+acts-agree-on DisruptiveOutcome.Block = refl
+acts-agree-on DisruptiveOutcome.Pass = refl
+acts-agree-on DisruptiveOutcome.Allow = refl
+acts-agree-on (DisruptiveOutcome.Redirect at) = refl
+acts-agree-on DisruptiveOutcome.Drop = refl
+
+pub acts-agree : (mode : RuleEngineMode) (d : DisruptiveOutcome) → isAllow d ≡ false → manualActs mode d ≡ rustActs mode d
+acts-agree mode d e = rw e
+
+-- a unit of one rule has the same controls in both
+pub controls-agree : (q : Call) (m : ℕ) (c : Controls) → rustClosed q (m ∷ []) c ≡ manualMatched q m c
+controls-agree q m c = refl
+
+-- the call with another reading
+abbrev pub underReading : Reading → Call → Call
+underReading r q = record {
+  reading = r;
+  phase = q .phase;
+  mode = q .mode;
+  status = q .status;
+  rules = q .rules;
+  actions = q .actions;
+  markers = q .markers;
+  text = q .text;
+  outcomes = q .outcomes;
+  transaction = q .transaction;
+  ids = q .ids;
+  data-entries = q .data-entries;
+  journal = q .journal;
+}
+
+-- no refusal depends on the reading
+pub refusals-agree : (r : Reading) (q : Call) → refusalOf (underReading r q) ≡ refusalOf q
+unfolding refusalOf refused1 refused2 refused3 refused4 refused5 refused6 refused7 refused8 refused9 ruleRanges ruleTargets rangesAdded targetsAdded
+refusals-agree r q = refl

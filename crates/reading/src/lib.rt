@@ -1,0 +1,192 @@
+// The enums and structs that the definitions in specs/ and the code of the crates above share.
+// There is no function here. Lists are lent as records of plain numbers: what such a record may hold
+// is refusal 5's matter, so an unknown number is a value like any other.
+
+// The engine's mode (`RuleEngineMode`).
+pub enum RuleEngineMode {
+    On,
+    DetectionOnly,
+    Off,
+}
+
+// The values of `ctl:requestBodyAccess`.
+pub enum BodyAccess {
+    On,
+    Off,
+}
+
+// The values of `ctl:requestBodyProcessor`.
+pub enum BodyProcessor {
+    Urlencoded,
+    Multipart,
+    Json,
+    Xml,
+}
+
+// A mode that a directive set, or none.
+pub enum ModeSetting {
+    Unset,
+    Set(RuleEngineMode),
+}
+
+// A body access that a directive set, or none.
+pub enum AccessSetting {
+    Unset,
+    Set(BodyAccess),
+}
+
+// A body processor that a directive set, or none.
+pub enum ProcessorSetting {
+    Unset,
+    Set(BodyProcessor),
+}
+
+// A number or none: an id, a severity, a marker's position.
+pub enum OptionU64 {
+    None,
+    Some(u64),
+}
+
+// A number read from a text.
+pub enum Number {
+    Bad,
+    Value(u64),
+}
+
+// Removed ids from `start` to `end`, both included.
+pub struct RuleIdRange {
+    pub start: u64,
+    pub end: u64,
+}
+
+// One part of a list of id ranges, between two commas.
+pub enum IdPart {
+    Blank,
+    Bad,
+    Range(RuleIdRange),
+}
+
+// A directive as the reader answers it. The ranges of `RuleRemoveById` stand at the start of the
+// lent lists, and the number here says how many; the number of `RuleRemoveTargetById` says where
+// in the value the ';' stands.
+pub enum CtlDirective {
+    RuleEngine(RuleEngineMode),
+    RuleRemoveById(usize),
+    RuleRemoveTargetById(usize),
+    RequestBodyAccess(BodyAccess),
+    RequestBodyProcessor(BodyProcessor),
+    Unsupported,
+}
+
+// A part of a lent text.
+pub struct Part {
+    pub start: u64,
+    pub len: u64,
+}
+
+// Where a text or a target stands: the phase, and the position in that phase's action list.
+pub struct Place {
+    pub phase: u64,
+    pub position: u64,
+}
+
+pub enum OptionPlace {
+    None,
+    Some(Place),
+}
+
+// A rule's record. `present` is 1 where the rule has an id and 0 where it has none, `link` is
+// `is_chain`, and its actions are the `count` from `first` on.
+pub struct Rule {
+    pub present: u64,
+    pub id: u64,
+    pub link: u64,
+    pub first: u64,
+    pub count: u64,
+}
+
+// An action's record: its kind, its number, and two parts of the lent text.
+pub struct Action {
+    pub kind: u64,
+    pub number: u64,
+    pub text: Part,
+    pub value: Part,
+}
+
+// A marker's record: its name, and the number of the phase's rules before it.
+pub struct Marker {
+    pub name: Part,
+    pub position: u64,
+}
+
+// An entry of the list of matched data. `present` is 1 where it has an id.
+pub struct DataEntry {
+    pub present: u64,
+    pub id: u64,
+    pub phase: u64,
+    pub index: u64,
+}
+
+// An entry of the journal: a visited rule's index and the number of the verdict.
+pub struct JournalEntry {
+    pub index: u64,
+    pub verdict: u64,
+}
+
+// What a visit finds of its rule.
+pub enum Verdict {
+    Missed,
+    Matched,
+    Removed,
+    Error,
+}
+
+// A rule's last disruptive action, or none (`DisruptiveOutcome`). A redirect has its position in
+// the action list.
+pub enum DisruptiveOutcome {
+    Nothing,
+    Deny,
+    Block,
+    Pass,
+    Allow,
+    Redirect(u64),
+    Drop,
+}
+
+// A rule's last flow action (`FlowOutcome`). `SkipAfter` has its position in the action list.
+pub enum FlowOutcome {
+    Continue,
+    Chain,
+    Skip(u64),
+    SkipAfter(u64),
+}
+
+// A rule's metadata (`RuleMetadata`): the last of each kind.
+pub struct RuleMetadata {
+    pub id: OptionU64,
+    pub msg: OptionPlace,
+    pub logdata: OptionPlace,
+    pub rev: OptionPlace,
+    pub ver: OptionPlace,
+    pub severity: OptionU64,
+    pub maturity: OptionU64,
+    pub accuracy: OptionU64,
+}
+
+// What stops a request (`Intervention`). Its id list is `closing`, the closing rule's id, and then
+// `starter`, the starter's metadata id, which is none where it is the same.
+pub struct Intervention {
+    pub status: u64,
+    pub url: OptionPlace,
+    pub log: OptionPlace,
+    pub closing: OptionU64,
+    pub starter: OptionU64,
+    pub phase: u64,
+    pub drop: bool,
+    pub metadata: RuleMetadata,
+}
+
+pub enum OptionIntervention {
+    None,
+    Some(Intervention),
+}
