@@ -15,3 +15,4 @@ pub mod Outcome
 pub mod Demand3
 pub mod Manual
 pub mod Theorems
+pub mod Cases

@@ -1,0 +1,358 @@
+-- Cases written as 01 writes them, and the calls that they stand for.
+use Prim.Native.Nat.{ℕ, suc, _+_}
+use Prim.Native.String.{String}
+use mathlib.Core.Bool.{Bool, true, false, not, cond, _&&_, _||_}
+use mathlib.Core.List.{List, [], _∷_, _++_, map}
+use lib.ListN.{length, take, drop as behind, replicate}
+use lib.Dec.{eqb}
+use Rattle.reading.specs.declared.RuleEngineMode.{RuleEngineMode}
+use Rattle.reading.specs.declared.Part.{Part}
+use Rattle.reading.specs.declared.Rule.{Rule}
+use Rattle.reading.specs.declared.Action.{Action}
+use Rattle.reading.specs.declared.Marker.{Marker}
+use Rattle.reading.specs.declared.DataEntry.{DataEntry}
+use Rattle.reading.specs.declared.JournalEntry.{JournalEntry}
+use Rattle.reading.specs.declared.OptionU64.{OptionU64}
+use Rattle.reading.specs.declared.Intervention.{Intervention}
+use Rattle.reading.specs.declared.OptionIntervention.{OptionIntervention}
+use Rattle.reading.specs.Lists.{any, gather}
+use Rattle.reading.specs.Text.{ascii, same}
+use Rattle.reading.specs.Numbers.{modeNumber, presentNumber, numberOrZero}
+use Rattle.reading.specs.Directive.{directiveOf, isSupported}
+use Rattle.reading.specs.Controls.{Controls, noControls, isRemoved}
+use Rattle.reading.specs.Reading.{Reading, rust}
+use Rattle.reading.specs.Call.{Call, Transaction}
+use Rattle.reading.specs.Units.{interventionIds}
+use Rattle.reading.specs.Outcome.{Outcome, outcomeOf}
+
+-- AN ACTION AS IT IS WRITTEN
+
+pub data Act : Type 0 where
+  other deny block pass allow drop chain multiMatch : Act
+  redirect skipAfter msg : String → Act
+  skip id status : ℕ → Act
+  ctl : String → String → Act
+
+-- 01's kind, the number, and the two texts
+abbrev pub actKind : Act → ℕ
+actKind other = 0
+actKind deny = 1
+actKind block = 2
+actKind pass = 3
+actKind allow = 4
+actKind (redirect s) = 5
+actKind drop = 6
+actKind chain = 7
+actKind (skip n) = 8
+actKind (skipAfter s) = 9
+actKind multiMatch = 10
+actKind (id n) = 11
+actKind (msg s) = 12
+actKind (ctl d v) = 19
+actKind (status n) = 20
+
+abbrev pub actNumber : Act → ℕ
+actNumber other = 0
+actNumber deny = 0
+actNumber block = 0
+actNumber pass = 0
+actNumber allow = 0
+actNumber (redirect s) = 0
+actNumber drop = 0
+actNumber chain = 0
+actNumber (skip n) = n
+actNumber (skipAfter s) = 0
+actNumber multiMatch = 0
+actNumber (id n) = n
+actNumber (msg s) = 0
+actNumber (ctl d v) = 0
+actNumber (status n) = n
+
+abbrev pub actText : Act → List ℕ
+actText other = []
+actText deny = []
+actText block = []
+actText pass = []
+actText allow = []
+actText (redirect s) = ascii s
+actText drop = []
+actText chain = []
+actText (skip n) = []
+actText (skipAfter s) = ascii s
+actText multiMatch = []
+actText (id n) = []
+actText (msg s) = ascii s
+actText (ctl d v) = ascii d
+actText (status n) = []
+
+abbrev pub actValue : Act → List ℕ
+actValue other = []
+actValue deny = []
+actValue block = []
+actValue pass = []
+actValue allow = []
+actValue (redirect s) = []
+actValue drop = []
+actValue chain = []
+actValue (skip n) = []
+actValue (skipAfter s) = []
+actValue multiMatch = []
+actValue (id n) = []
+actValue (msg s) = []
+actValue (ctl d v) = ascii v
+actValue (status n) = []
+
+-- A RULE AND A MARKER AS THEY ARE WRITTEN
+
+pub record Written : Type 0 where
+  pub id : OptionU64
+  pub link : ℕ
+  pub outcome : ℕ
+  pub acts : List Act
+
+pub record Named : Type 0 where
+  pub name : String
+  pub position : ℕ
+
+-- 01: "every numbered rule has its id action", "all matched with outcome 2, unless said"
+abbrev pub rule : ℕ → List Act → Written
+rule n acts = record { id = OptionU64.Some n; link = 0; outcome = 2; acts = id n ∷ acts }
+
+-- 01: ""20 link deny" is a link with rule id 20, an id action 20 and a deny"
+abbrev pub link : ℕ → List Act → Written
+link n acts = record { id = OptionU64.Some n; link = 1; outcome = 2; acts = id n ∷ acts }
+
+-- a rule, and a link, without an id and without an id action
+abbrev pub noId : List Act → Written
+noId acts = record { id = OptionU64.None; link = 0; outcome = 2; acts = acts }
+
+abbrev pub noIdLink : List Act → Written
+noIdLink acts = record { id = OptionU64.None; link = 1; outcome = 2; acts = acts }
+
+-- the same rule with another outcome
+abbrev pub withOutcome : ℕ → Written → Written
+withOutcome n w = record { id = w .id; link = w .link; outcome = n; acts = w .acts }
+
+abbrev pub missed : Written → Written
+missed w = withOutcome 0 w
+
+abbrev pub inError : Written → Written
+inError w = withOutcome 3 w
+
+abbrev pub marker : String → ℕ → Named
+marker name position = record { name = name; position = position }
+
+-- THE RECORDS: each text stands behind those before it
+
+abbrev pub partAt : ℕ → List ℕ → Part
+partAt start text = record { start = start; len = length text }
+
+abbrev pub layActs : ℕ → List Act → List Action
+layActs start [] = []
+layActs start (a ∷ rest) =
+    record { kind = actKind a; number = actNumber a; text = partAt start (actText a); value = partAt (start + length (actText a)) (actValue a) }
+    ∷ layActs (start + length (actText a) + length (actValue a)) rest
+
+abbrev pub actsText : List Act → List ℕ
+actsText acts = gather (λ a. actText a ++ actValue a) acts
+
+abbrev pub layRules : ℕ → List Written → List Rule
+layRules first [] = []
+layRules first (w ∷ ws) =
+    record { present = presentNumber (w .id); id = numberOrZero (w .id); link = w .link; first = first; count = length (w .acts) }
+    ∷ layRules (first + length (w .acts)) ws
+
+abbrev pub layMarkers : ℕ → List Named → List Marker
+layMarkers start [] = []
+layMarkers start (m ∷ ms) =
+    record { name = partAt start (ascii (m .name)); position = m .position } ∷ layMarkers (start + length (ascii (m .name))) ms
+
+abbrev pub markersText : List Named → List ℕ
+markersText ms = gather (λ m. ascii (m .name)) ms
+
+abbrev pub allActs : List Written → List Act
+allActs ws = gather (λ w. w .acts) ws
+
+-- what stands in the lent lists before the call
+abbrev pub lentData : DataEntry
+lentData = record { present = 9; id = 9; phase = 9; index = 9 }
+
+abbrev pub lentEntry : JournalEntry
+lentEntry = record { index = 9; verdict = 9 }
+
+-- a phase 2 call of a rule set with a mode, under a reading, with the controls held and whether the transaction is allowed;
+-- each lent list has two entries more than there are rules, and one id and one data entry are in use
+abbrev pub callWith : Reading → RuleEngineMode → Controls → Bool → List Written → List Named → Call
+callWith reading mode held allowed ws ms = record {
+  reading = reading;
+  phase = 2;
+  mode = modeNumber mode;
+  status = 500;
+  rules = layRules 0 ws;
+  actions = layActs 0 (allActs ws);
+  markers = layMarkers (length (actsText (allActs ws))) ms;
+  text = actsText (allActs ws) ++ markersText ms;
+  outcomes = map (λ w. w .outcome) ws;
+  transaction = record { controls = held; allowed = allowed; intervention = OptionIntervention.None; ids = 1; data-entries = 1 };
+  ids = replicate (length ws + 2) 9;
+  data-entries = replicate (length ws + 2) lentData;
+  journal = replicate (length ws + 2) lentEntry;
+}
+
+-- nothing held
+abbrev pub callIn : RuleEngineMode → List Written → List Named → Call
+callIn mode ws ms = callWith rust mode noControls false ws ms
+
+-- "Mode On .. unless said"
+abbrev pub call : List Written → List Named → Call
+call ws ms = callIn RuleEngineMode.On ws ms
+
+-- WHAT A ROW STATES
+
+pub record Seen : Type 0 where
+  pub at : ℕ
+  pub verdict : ℕ
+
+abbrev pub matched : ℕ → Seen
+matched i = record { at = i; verdict = 1 }
+
+abbrev pub miss : ℕ → Seen
+miss i = record { at = i; verdict = 0 }
+
+abbrev pub removed : ℕ → Seen
+removed i = record { at = i; verdict = 2 }
+
+abbrev pub error : ℕ → Seen
+error i = record { at = i; verdict = 3 }
+
+pub record Entry : Type 0 where
+  pub id : OptionU64
+  pub at : ℕ
+
+abbrev pub entry : ℕ → ℕ → Entry
+entry n i = record { id = OptionU64.Some n; at = i }
+
+abbrev pub noIdEntry : ℕ → Entry
+noIdEntry i = record { id = OptionU64.None; at = i }
+
+pub data Stop : Type 0 where
+  none : Stop
+  stopped : ℕ → List ℕ → Stop
+
+pub record Told : Type 0 where
+  pub directive : String
+  pub value : String
+  pub supported : Bool
+
+-- what is found after a call: the visits, the ids and the data entries added, allowed or not, the intervention's status
+-- and ids
+pub record Found : Type 0 where
+  pub visits : List Seen
+  pub ids : List ℕ
+  pub data-entries : List Entry
+  pub allowed : Bool
+  pub stop : Stop
+
+-- nothing added
+abbrev pub nothing : Found
+nothing = record { visits = []; ids = []; data-entries = []; allowed = false; stop = none }
+
+-- the name of a case, its call, the answer with the error's index, what is found, ids that are removed and ids that are
+-- not by the controls found, and directives that are supported or not
+pub record Row : Type 0 where
+  pub name : String
+  pub given : Call
+  pub answer : ℕ
+  pub error-index : ℕ
+  pub found : Found
+  pub gone : List ℕ
+  pub kept : List ℕ
+  pub told : List Told
+
+-- a row of a call that is answered 0; one that says also what is removed and what is supported; one that is answered 10;
+-- one that is refused
+abbrev pub row : String → Call → Found → Row
+row name given found =
+    record { name = name; given = given; answer = 0; error-index = 0; found = found; gone = []; kept = []; told = [] }
+
+abbrev pub removal : String → Call → Found → List ℕ → List ℕ → List Told → Row
+removal name given found gone kept told =
+    record { name = name; given = given; answer = 0; error-index = 0; found = found; gone = gone; kept = kept; told = told }
+
+abbrev pub failing : String → Call → ℕ → Found → Row
+failing name given at found =
+    record { name = name; given = given; answer = 10; error-index = at; found = found; gone = []; kept = []; told = [] }
+
+abbrev pub refused : String → Call → ℕ → Row
+refused name given number =
+    record { name = name; given = given; answer = number; error-index = 0; found = nothing; gone = []; kept = []; told = [] }
+
+-- WHETHER IT HOLDS
+
+abbrev pub eqBool : Bool → Bool → Bool
+eqBool true b = b
+eqBool false b = not b
+
+-- a list holds the new entries, and then what was lent
+unfoldable pub sameIds : List ℕ → List ℕ → Bool
+sameIds [] [] = true
+sameIds [] (n ∷ ns) = false
+sameIds (x ∷ xs) [] = eqb x 9 && sameIds xs []
+sameIds (x ∷ xs) (n ∷ ns) = eqb x n && sameIds xs ns
+
+unfoldable pub sameVisits : List JournalEntry → List Seen → Bool
+sameVisits [] [] = true
+sameVisits [] (s ∷ ss) = false
+sameVisits (e ∷ es) [] = eqb (e .index) 9 && eqb (e .verdict) 9 && sameVisits es []
+sameVisits (e ∷ es) (s ∷ ss) = eqb (e .index) (s .at) && eqb (e .verdict) (s .verdict) && sameVisits es ss
+
+unfoldable pub sameData : List DataEntry → List Entry → Bool
+sameData [] [] = true
+sameData [] (s ∷ ss) = false
+sameData (e ∷ es) [] = eqb (e .present) 9 && eqb (e .id) 9 && eqb (e .phase) 9 && eqb (e .index) 9 && sameData es []
+sameData (e ∷ es) (s ∷ ss) =
+    eqb (e .present) (presentNumber (s .id)) && eqb (e .id) (numberOrZero (s .id)) && eqb (e .phase) 2 && eqb (e .index) (s .at) && sameData es ss
+
+unfoldable pub sameStop : OptionIntervention → Stop → Bool
+sameStop OptionIntervention.None none = true
+sameStop OptionIntervention.None (stopped code ids) = false
+sameStop (OptionIntervention.Some i) none = false
+sameStop (OptionIntervention.Some i) (stopped code ids) = eqb (i .status) code && same (interventionIds i) ids && eqb (i .phase) 2
+
+abbrev pub allTold : List Told → Bool
+allTold [] = true
+allTold (t ∷ ts) = eqBool (isSupported (directiveOf (ascii (t .directive)) (ascii (t .value)))) (t .supported) && allTold ts
+
+-- whether each of some ids is removed, or is not
+abbrev pub allGone : Controls → Bool → List ℕ → Bool
+allGone c gone [] = true
+allGone c gone (n ∷ ns) = eqBool (isRemoved (c .ranges) (OptionU64.Some n)) gone && allGone c gone ns
+
+-- the first entry of the two lists is in use and stays
+abbrev pub holdsAfter : Row → Outcome → Bool
+holdsAfter r o =
+    eqb (o .answer) (r .answer)
+    && eqb (o .error) (r .error-index)
+    && eqb (o .visits) (length (r .found .visits))
+    && eqb (length (o .journal)) (length (r .given .journal))
+    && sameVisits (o .journal) (r .found .visits)
+    && eqb (o .transaction .ids) (r .given .transaction .ids + length (r .found .ids))
+    && eqb (length (o .ids)) (length (r .given .ids))
+    && sameIds (take 1 (o .ids)) []
+    && sameIds (behind 1 (o .ids)) (r .found .ids)
+    && eqb (o .transaction .data-entries) (r .given .transaction .data-entries + length (r .found .data-entries))
+    && eqb (length (o .data-entries)) (length (r .given .data-entries))
+    && sameData (take 1 (o .data-entries)) []
+    && sameData (behind 1 (o .data-entries)) (r .found .data-entries)
+    && eqBool (o .transaction .allowed) (r .found .allowed)
+    && sameStop (o .transaction .intervention) (r .found .stop)
+    && allGone (o .transaction .controls) true (r .gone)
+    && allGone (o .transaction .controls) false (r .kept)
+    && allTold (r .told)
+
+unfoldable pub holds : Row → Bool
+holds r = holdsAfter r (outcomeOf (r .given))
+
+unfoldable pub allHold : List Row → Bool
+allHold [] = true
+allHold (r ∷ rs) = holds r && allHold rs
