@@ -6,10 +6,12 @@ use mathlib.Core.Logic.{_⊎_}
 use mathlib.Core.Bool.{Bool, true, false}
 use lib.ListN.{length, take}
 use Rattle.reading.specs.declared.JournalEntry.{JournalEntry}
-use Rattle.reading.specs.declared.OptionIntervention.{OptionIntervention}
-use Rattle.reading.specs.Call.{Call, ruleCount}
+use Rattle.reading.specs.declared.Intervention.{Intervention}
+use Rattle.reading.specs.Controls.{isOn}
+use Rattle.reading.specs.Call.{Call, ruleCount, modeUnder}
+use Rattle.reading.specs.Units.{unitDisruptive, unitIntervention, isStopping}
 use Rattle.reading.specs.Walk.{walkOf, journalOf, isStopped}
-use Rattle.reading.specs.Replay.{replayedIds, replayedData, replayedControls, replayedAllow, replayedIntervention}
+use Rattle.reading.specs.Replay.{lastClosed, replayedIds, replayedData, replayedControls, replayedAllow, replayedIntervention}
 use Rattle.reading.specs.Outcome.{Outcome, atFreeEnd}
 
 -- entries whose indexes are at least `from`, below `n`, and each greater than the one before it
@@ -40,3 +42,12 @@ pub record Accounted (q : Call) (o : Outcome) : Type 0 where
 abbrev pub Demand3 : Call → Outcome → Type 0
 Demand3 q o =
     (o .answer ≡ 0) ⊎ (o .answer ≡ 10) → q .transaction .allowed ≡ false → isStopped (q .transaction .intervention) ≡ false → Accounted q o
+
+-- a journal whose last entry closes a unit that stops the request with the intervention i: its starter's last disruptive
+-- action is deny, block, redirect or drop, and the mode after its controls is On
+pub record StoppedBy (q : Call) (journal : List JournalEntry) (i : Intervention) : Type 0 where
+  pub unit : List ℕ
+  pub closed-last : lastClosed q journal ≡ unit ∷ []
+  pub stopping : isStopping (unitDisruptive q unit) ≡ true
+  pub mode-on : isOn (modeUnder q (replayedControls q journal)) ≡ true
+  pub built : i ≡ unitIntervention q unit

@@ -30,9 +30,6 @@ rustBreaks = false
 abbrev pub rustStatus : OptionU64 → ℕ
 rustStatus last = 403
 
-abbrev pub rust : Reading
-rust = record { adjacent = rustAdjacent; breaks = rustBreaks; status = rustStatus }
-
 -- THE MANUAL'S READING
 
 -- The manual, skipAfter: processing goes on with the first rule behind the marker. 02: "A marker at the index after the
@@ -49,6 +46,11 @@ manualBreaks = true
 abbrev pub manualStatus : OptionU64 → ℕ
 manualStatus OptionU64.None = 403
 manualStatus (OptionU64.Some status) = status
+
+-- THE TWO INSTANCES
+
+abbrev pub rust : Reading
+rust = record { adjacent = rustAdjacent; breaks = rustBreaks; status = rustStatus }
 
 abbrev pub manual : Reading
 manual = record { adjacent = manualAdjacent; breaks = manualBreaks; status = manualStatus }

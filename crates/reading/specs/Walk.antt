@@ -94,13 +94,13 @@ endingBy q unit c d =
     cond (isAllow d) allows
     (cond (isStopping d && isOn (modeUnder q c)) (stops (unitIntervention q unit)) goesOn)
 
--- a unit closes at index i, with the controls c after it
-abbrev pub closing : Call → ℕ → List ℕ → Controls → Visit
-closing q i unit c = record {
-  index = i;
+-- a unit closes, with the controls c after it
+abbrev pub closing : Call → State → List ℕ → Controls → Visit
+closing q st unit c = record {
+  index = st .next;
   verdict = Verdict.Matched;
   closed = unit ∷ [];
-  after = record { next = afterFlow q (suc i) (unitFlow q unit); members = []; controls = c };
+  after = record { next = afterFlow q (suc (st .next)) (unitFlow q unit); members = []; controls = c };
   ending = endingBy q unit c (unitDisruptive q unit);
 }
 
@@ -124,7 +124,7 @@ visitBy q st Verdict.Matched true =
     passing (st .next) Verdict.Matched (suc (st .next)) (st .members ++ (st .next ∷ [])) (st .controls) goesOn
 -- "A matched rule that is not a link closes the unit: its id is listed, controls apply, then flow, then the disruptive action."
 visitBy q st Verdict.Matched false =
-    closing q (st .next) (st .members ++ (st .next ∷ [])) (unitControls q (st .members ++ (st .next ∷ [])) (st .controls))
+    closing q st (st .members ++ (st .next ∷ [])) (unitControls q (st .members ++ (st .next ∷ [])) (st .controls))
 -- "A removed link breaks the open chain and passes everything through the chain's closing rule."
 visitBy q st Verdict.Removed true = passing (st .next) Verdict.Removed (afterChain q (st .next)) [] (st .controls) goesOn
 -- "A removed rule that is not a link is passed alone: an open chain stays open [in the Rust's reading], and the next rule

@@ -13,6 +13,7 @@ use Rattle.reading.specs.declared.Marker.{Marker}
 use Rattle.reading.specs.declared.DataEntry.{DataEntry}
 use Rattle.reading.specs.declared.JournalEntry.{JournalEntry}
 use Rattle.reading.specs.declared.OptionU64.{OptionU64}
+use Rattle.reading.specs.declared.OptionPlace.{OptionPlace}
 use Rattle.reading.specs.declared.Intervention.{Intervention}
 use Rattle.reading.specs.declared.OptionIntervention.{OptionIntervention}
 use Rattle.reading.specs.Lists.{any, gather}
@@ -235,9 +236,12 @@ entry n i = record { id = OptionU64.Some n; at = i }
 abbrev pub noIdEntry : ℕ → Entry
 noIdEntry i = record { id = OptionU64.None; at = i }
 
+-- no intervention; one with a status and ids, without address, log and drop; one with the positions of its address and
+-- its log, if any, and whether it drops the connection
 pub data Stop : Type 0 where
   none : Stop
   stopped : ℕ → List ℕ → Stop
+  stoppedWith : ℕ → List ℕ → OptionU64 → OptionU64 → Bool → Stop
 
 pub record Told : Type 0 where
   pub directive : String
@@ -257,35 +261,41 @@ pub record Found : Type 0 where
 abbrev pub nothing : Found
 nothing = record { visits = []; ids = []; data-entries = []; allowed = false; stop = none }
 
--- the name of a case, its call, the answer with the error's index, what is found, ids that are removed and ids that are
--- not by the controls found, and directives that are supported or not
+-- the name of a case, its call, the answer with the error's index, what is found, how many ranges and targets are then
+-- held, ids that are removed and ids that are not, and directives that are supported or not
 pub record Row : Type 0 where
   pub name : String
   pub given : Call
   pub answer : ℕ
   pub error-index : ℕ
   pub found : Found
+  pub ranges : ℕ
+  pub targets : ℕ
   pub gone : List ℕ
   pub kept : List ℕ
   pub told : List Told
 
--- a row of a call that is answered 0; one that says also what is removed and what is supported; one that is answered 10;
--- one that is refused
+-- a row of a call that is answered 0; one that says also what is removed and what is supported; one that adds
+-- targets; one that is answered 10; one that is refused
 abbrev pub row : String → Call → Found → Row
 row name given found =
-    record { name = name; given = given; answer = 0; error-index = 0; found = found; gone = []; kept = []; told = [] }
+    record { name = name; given = given; answer = 0; error-index = 0; found = found; ranges = 0; targets = 0; gone = []; kept = []; told = [] }
 
-abbrev pub removal : String → Call → Found → List ℕ → List ℕ → List Told → Row
-removal name given found gone kept told =
-    record { name = name; given = given; answer = 0; error-index = 0; found = found; gone = gone; kept = kept; told = told }
+abbrev pub removal : String → Call → Found → ℕ → List ℕ → List ℕ → List Told → Row
+removal name given found ranges gone kept told =
+    record { name = name; given = given; answer = 0; error-index = 0; found = found; ranges = ranges; targets = 0; gone = gone; kept = kept; told = told }
+
+abbrev pub targeting : String → Call → Found → ℕ → Row
+targeting name given found targets =
+    record { name = name; given = given; answer = 0; error-index = 0; found = found; ranges = 0; targets = targets; gone = []; kept = []; told = [] }
 
 abbrev pub failing : String → Call → ℕ → Found → Row
 failing name given at found =
-    record { name = name; given = given; answer = 10; error-index = at; found = found; gone = []; kept = []; told = [] }
+    record { name = name; given = given; answer = 10; error-index = at; found = found; ranges = 0; targets = 0; gone = []; kept = []; told = [] }
 
 abbrev pub refused : String → Call → ℕ → Row
 refused name given number =
-    record { name = name; given = given; answer = number; error-index = 0; found = nothing; gone = []; kept = []; told = [] }
+    record { name = name; given = given; answer = number; error-index = 0; found = nothing; ranges = length (given .transaction .controls .ranges); targets = length (given .transaction .controls .targets); gone = []; kept = []; told = [] }
 
 -- WHETHER IT HOLDS
 
@@ -313,11 +323,30 @@ sameData (e ∷ es) [] = eqb (e .present) 9 && eqb (e .id) 9 && eqb (e .phase) 9
 sameData (e ∷ es) (s ∷ ss) =
     eqb (e .present) (presentNumber (s .id)) && eqb (e .id) (numberOrZero (s .id)) && eqb (e .phase) 2 && eqb (e .index) (s .at) && sameData es ss
 
+-- a place in phase 2, or none
+abbrev pub samePlace : OptionPlace → OptionU64 → Bool
+samePlace OptionPlace.None OptionU64.None = true
+samePlace OptionPlace.None (OptionU64.Some n) = false
+samePlace (OptionPlace.Some p) OptionU64.None = false
+samePlace (OptionPlace.Some p) (OptionU64.Some n) = eqb (p .phase) 2 && eqb (p .position) n
+
+abbrev pub sameIntervention : Intervention → ℕ → List ℕ → OptionU64 → OptionU64 → Bool → Bool
+sameIntervention i code ids url log dropped =
+    eqb (i .status) code
+    && same (interventionIds i) ids
+    && eqb (i .phase) 2
+    && samePlace (i .url) url
+    && samePlace (i .log) log
+    && samePlace (i .metadata .msg) log
+    && eqBool (i .drop) dropped
+
 unfoldable pub sameStop : OptionIntervention → Stop → Bool
 sameStop OptionIntervention.None none = true
 sameStop OptionIntervention.None (stopped code ids) = false
+sameStop OptionIntervention.None (stoppedWith code ids url log dropped) = false
 sameStop (OptionIntervention.Some i) none = false
-sameStop (OptionIntervention.Some i) (stopped code ids) = eqb (i .status) code && same (interventionIds i) ids && eqb (i .phase) 2
+sameStop (OptionIntervention.Some i) (stopped code ids) = sameIntervention i code ids OptionU64.None OptionU64.None false
+sameStop (OptionIntervention.Some i) (stoppedWith code ids url log dropped) = sameIntervention i code ids url log dropped
 
 abbrev pub allTold : List Told → Bool
 allTold [] = true
@@ -346,6 +375,8 @@ holdsAfter r o =
     && sameData (behind 1 (o .data-entries)) (r .found .data-entries)
     && eqBool (o .transaction .allowed) (r .found .allowed)
     && sameStop (o .transaction .intervention) (r .found .stop)
+    && eqb (length (o .transaction .controls .ranges)) (r .ranges)
+    && eqb (length (o .transaction .controls .targets)) (r .targets)
     && allGone (o .transaction .controls) true (r .gone)
     && allGone (o .transaction .controls) false (r .kept)
     && allTold (r .told)

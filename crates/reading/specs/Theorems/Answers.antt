@@ -120,8 +120,10 @@ turn-error q st rest true f h = by (isError (v .ending)) refl
   where
     verdict : Verdict
     verdict = verdictAt q (st .controls) (st .next)
+
     v : Visit
     v = visitBy q st verdict (isLink q (st .next))
+
     by : (b : Bool) → isError (v .ending) ≡ b → ErrorFound q (st .controls) (v ∷ keep (not (isLast (v .ending))) rest)
     by true e =
         let is : isErrorVerdict verdict ≡ true = sym (error-verdict q st verdict (isLink q (st .next))) ∙ e in

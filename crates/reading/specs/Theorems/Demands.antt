@@ -10,16 +10,18 @@ use lib.ListN.{length, take, drop, take-append-drop}
 use lib.Dec.{eqb}
 use borrow.Author.Tests.{eq-eqb, ne-eqb, eqb-true, eqb-false}
 use Rattle.reading.specs.declared.JournalEntry.{JournalEntry}
+use Rattle.reading.specs.declared.Intervention.{Intervention}
 use Rattle.reading.specs.declared.OptionIntervention.{OptionIntervention}
 use Rattle.reading.specs.Lists.{keep, over, any, gather}
 use Rattle.reading.specs.Reading.{Reading}
-use Rattle.reading.specs.Call.{Call, Transaction, ruleCount}
-use Rattle.reading.specs.Units.{unitIds, unitData}
+use Rattle.reading.specs.Call.{Call, Transaction, ruleCount, isLink, modeUnder}
+use Rattle.reading.specs.Controls.{Controls, isOn}
+use Rattle.reading.specs.Units.{unitIds, unitData, unitDisruptive, unitIntervention, isStopping}
 use Rattle.reading.specs.Walk.{Visit, walk, start, walkOf, isStopped, nothingToDo, journalOf, closedIn, idsOf, dataOf, controlsAfter, allowedBy, interventionBy, answerBy, errorIndexBy}
-use Rattle.reading.specs.Replay.{unitsOf, lastClosed, unitsControls, unitAllows, stopOf, replayedIds, replayedData, replayedControls, replayedAllow, replayedIntervention}
+use Rattle.reading.specs.Replay.{heldAfter, unitsOf, lastClosedFrom, lastClosed, unitsControls, unitAllows, stopOf, replayedIds, replayedData, replayedControls, replayedAllow, replayedIntervention}
 use Rattle.reading.specs.Refusals.{refusalOf, isAccepted, refused1, refused2, refused3, refused4, refused5, refused6, refused7, refused8, refused9}
 use Rattle.reading.specs.Outcome.{Outcome, visitsOf, outcomeOf, atFreeEnd, ifNone, transactionAfter}
-use Rattle.reading.specs.Demand3.{Demand3, Accounted, Rises, foundJournal}
+use Rattle.reading.specs.Demand3.{Demand3, Accounted, StoppedBy, Rises, foundJournal}
 use Rattle.reading.specs.Theorems.Replayed.{Replayed, walk-replayed}
 use Rattle.reading.specs.Theorems.Rising.{indexes-rise}
 use Rattle.reading.specs.Theorems.Limits.{accepted-visits}
@@ -61,9 +63,11 @@ few-refusals q = by (refused1 q) (refused2 q) (refused3 q) (refused4 q) (refused
     by-last : (b : Bool) → cond b 9 0 ≤ 9
     by-last true = omega arith
     by-last false = omega arith
+
     one : (b : Bool) (n m : ℕ) → n ≤ 9 → m ≤ 9 → cond b n m ≤ 9
     one true n m h g = h
     one false n m h g = g
+
     by : (a b c d e f g h i : Bool)
         → cond a 1 (cond b 2 (cond c 3 (cond d 4 (cond e 5 (cond f 6 (cond g 7 (cond h 8 (cond i 9 0)))))))) ≤ 9
     by a b c d e f g h i =
@@ -115,6 +119,57 @@ demand3 q answered unallowed unstopped =
           ap (λ (i : OptionIntervention). ifNone (interventionBy (walkOf q)) i) (none-held (q .transaction .intervention) unstopped)
           ∙ or-none (interventionBy (walkOf q)) ∙ r .intervention);
     }
+
+-- "An intervention is then found exactly when ..": the equation of `Accounted`, as the two directions
+
+-- an entry closes one unit or none, and so does the last of several
+OneOrNone : List (List ℕ) → Type 0
+OneOrNone l = (l ≡ []) ⊎ ((u : List ℕ) × (l ≡ u ∷ []))
+
+one-or-none : (q : Call) (held : List ℕ) (journal : List JournalEntry) → OneOrNone (lastClosedFrom q held journal)
+unfolding OneOrNone
+one-or-none q held [] = inl refl
+one-or-none q held (e ∷ []) = by (eqb (e .verdict) 1 && not (isLink q (e .index)))
+  where
+    by : (b : Bool) → OneOrNone (keep b ((held ++ (e .index ∷ [])) ∷ []))
+    by true = inr (held ++ (e .index ∷ []), refl)
+    by false = inl refl
+one-or-none q held (e ∷ f ∷ es) = one-or-none q (heldAfter q held e) (f ∷ es)
+
+same-intervention : (i j : Intervention) → OptionIntervention.Some i ≡ OptionIntervention.Some j → i ≡ j
+same-intervention i j e = cc
+
+never : (i : Intervention) → OptionIntervention.None ≡ OptionIntervention.Some i → ⊥
+never i e = let z : _≡_ {A = ℕ} 0 1 = cc in omega arith
+
+pub stop-has-cause : (q : Call) (journal : List JournalEntry) (i : Intervention)
+    → replayedIntervention q journal ≡ OptionIntervention.Some i → StoppedBy q journal i
+unfolding lastClosed OneOrNone
+stop-has-cause q journal i h = by (one-or-none q [] journal)
+  where
+    c : Controls
+    c = replayedControls q journal
+
+    unit-by : (u : List ℕ) → lastClosedFrom q [] journal ≡ u ∷ [] → (s on : Bool) → isStopping (unitDisruptive q u) ≡ s → isOn (modeUnder q c) ≡ on
+        → cond (s && on) (OptionIntervention.Some (unitIntervention q u)) OptionIntervention.None ≡ OptionIntervention.Some i → StoppedBy q journal i
+    unit-by u e true true p r g =
+        record { unit = u; closed-last = e; stopping = p; mode-on = r; built = sym (same-intervention (unitIntervention q u) i g) }
+    unit-by u e true false p r g = absurd (never i g)
+    unit-by u e false on p r g = absurd (never i g)
+
+    by : OneOrNone (lastClosedFrom q [] journal) → StoppedBy q journal i
+    by (inl e) = absurd (never i (sym (ap (λ (l : List (List ℕ)). stopOf q l c) e) ∙ h))
+    by (inr p) =
+        unit-by (p .0) (p .1) (isStopping (unitDisruptive q (p .0))) (isOn (modeUnder q c)) refl refl
+        (sym (ap (λ (l : List (List ℕ)). stopOf q l c) (p .1)) ∙ h)
+
+pub cause-stops : (q : Call) (journal : List JournalEntry) (i : Intervention)
+    → StoppedBy q journal i → replayedIntervention q journal ≡ OptionIntervention.Some i
+cause-stops q journal i s =
+    ap (λ (l : List (List ℕ)). stopOf q l (replayedControls q journal)) (s .closed-last)
+    ∙ ap (λ (b : Bool). cond (b && isOn (modeUnder q (replayedControls q journal))) (OptionIntervention.Some (unitIntervention q (s .unit))) OptionIntervention.None) (s .stopping)
+    ∙ ap (λ (b : Bool). cond b (OptionIntervention.Some (unitIntervention q (s .unit))) OptionIntervention.None) (s .mode-on)
+    ∙ ap OptionIntervention.Some (sym (s .built))
 
 -- CALLS THAT CHANGE NOTHING
 

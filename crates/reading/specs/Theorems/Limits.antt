@@ -102,11 +102,13 @@ turn-weighs w q st rest true e r =
     let v : Visit = visitBy q st verdict link in
     let h : st .next < ruleCount q = visited-within q st e in
     let l : List Visit = keep (not (isLast (v .ending))) rest in
-    omega (arith,
+    omega (
+      arith,
       total-append (total w) (v .closed) (closedIn l),
       kept-weighs w q (v .after) (not (isLast (v .ending))) rest r,
       visit-weighs w q st verdict link,
-      with-later w (ruleCount q) (st .next) (v .after .next) h (goes-ahead q st verdict link h))
+      with-later w (ruleCount q) (st .next) (v .after .next) h (goes-ahead q st verdict link h),
+    )
 
 weighs : (w : ℕ → ℕ) (k : ℕ) (q : Call) (st : State) → Weighs w q st (walk k q st)
 unfolding walk
@@ -188,11 +190,13 @@ module _ (q : Call) (count : Controls → ℕ) (given : Directive → ℕ) (coun
   -- the controls after the whole walk count at most those held and those of all rules
   walk-count : count (controlsAfter (q .transaction .controls) (walkOf q)) ≤ count (q .transaction .controls) + total weight (q .rules)
   walk-count =
-      omega (arith,
+      omega (
+        arith,
         ap count (walk-replayed q .controls),
         units-count (closedIn (walkOf q)) (q .transaction .controls),
         closed-weigh (λ m. weight (getD (q .rules) m noRule)) q,
-        ahead-rules weight (q .rules))
+        ahead-rules weight (q .rules),
+      )
 
 -- at most one id a unit, one unit a visit, and one visit a rule
 one-id : (i : OptionU64) → length (listOf i) ≤ 1

@@ -2,7 +2,7 @@
 -- does not depend on the reading.
 use Prim.Native.Nat.{ℕ, zero, suc, _+_, _≤_, _<_}
 use mathlib.Core.Path.{_≡_, refl, sym, ap, _∙_}
-use mathlib.Core.List.{List, [], _∷_}
+use mathlib.Core.List.{List, [], _∷_, _++_}
 use mathlib.Core.Bool.{Bool, true, false, cond, _&&_, _||_}
 use native.Mathlib.Omega.{arith}
 use lib.ListN.{length, getD, drop}
@@ -11,14 +11,17 @@ use lib.Dec.{leb, ltb, eqb}
 use borrow.Author.Tests.{lt-ltb, le-ltb, le-leb, lt-leb, eq-eqb, ne-eqb, ltb-true, ltb-false, eqb-true, eqb-false}
 use Rattle.reading.specs.declared.RuleEngineMode.{RuleEngineMode}
 use Rattle.reading.specs.declared.OptionU64.{OptionU64}
+use Rattle.reading.specs.declared.Verdict.{Verdict}
+use Rattle.reading.specs.declared.FlowOutcome.{FlowOutcome}
 use Rattle.reading.specs.declared.DisruptiveOutcome.{DisruptiveOutcome}
-use Rattle.reading.specs.Controls.{Controls}
+use Rattle.reading.specs.Controls.{Controls, isOn}
+use Rattle.reading.specs.Actions.{Placed, lastStatus}
 use Rattle.reading.specs.Reading.{Reading, rust, manual, jumps, rustStatus, manualStatus}
-use Rattle.reading.specs.Call.{Call, ruleCount, ruleAt, isLink, noRule}
-use Rattle.reading.specs.Walk.{chainRest, afterChain, endingBy, isLast}
-use Rattle.reading.specs.Units.{isAllow, isStopping}
+use Rattle.reading.specs.Call.{Call, ruleCount, ruleAt, isLink, noRule, modeUnder}
+use Rattle.reading.specs.Walk.{State, goesOn, allows, stops, isLast, chainRest, afterChain, afterFlow, endingBy, visitBy}
+use Rattle.reading.specs.Units.{isAllow, isStopping, stopStatus, unitIntervention}
 use Rattle.reading.specs.Refusals.{refusalOf, refused1, refused2, refused3, refused4, refused5, refused6, refused7, refused8, refused9, ruleRanges, ruleTargets, rangesAdded, targetsAdded}
-use Rattle.reading.specs.Manual.{manualJumps, manualSkip, rustSkip, manualActs, rustActs, manualMatched, rustClosed}
+use Rattle.reading.specs.Manual.{manualJumps, manualSkip, rustSkip, manualActs, rustActs, rustRedirectStatus, manualMatched, rustLink, rustClosed}
 
 -- the manual's instance jumps as the manual says
 pub manual-jumps : (position after : ℕ) → jumps manual position after ≡ manualJumps position after
@@ -71,6 +74,30 @@ acts-agree mode d e = rw e
 -- a unit of one rule has the same controls in both
 pub controls-agree : (q : Call) (m : ℕ) (c : Controls) → rustClosed q (m ∷ []) c ≡ manualMatched q m c
 controls-agree q m c = refl
+
+-- THE RUST'S RULES OF Manual.antt ARE THE WALK'S
+
+pub walk-skips : (q : Call) (after n : ℕ) → afterFlow q after (FlowOutcome.Skip n) ≡ rustSkip after n
+walk-skips q after n = refl
+
+pub walk-acts : (q : Call) (unit : List ℕ) (c : Controls) (d : DisruptiveOutcome) → isLast (endingBy q unit c d) ≡ rustActs (modeUnder q c) d
+walk-acts q unit c d = by (isAllow d) (isStopping d && isOn (modeUnder q c))
+  where
+    by : (a b : Bool) → isLast (cond a allows (cond b (stops (unitIntervention q unit)) goesOn)) ≡ (a || b)
+    by true b = refl
+    by false true = refl
+    by false false = refl
+
+pub walk-link : (q : Call) (st : State) → visitBy q st Verdict.Matched true .after .controls ≡ rustLink (st .controls)
+walk-link q st = refl
+
+pub walk-closed : (q : Call) (st : State) → visitBy q st Verdict.Matched false .after .controls ≡ rustClosed q (st .members ++ (st .next ∷ [])) (st .controls)
+walk-closed q st = refl
+
+pub walk-redirects : (q : Call) (ps : List Placed) (at : ℕ) → stopStatus q ps (DisruptiveOutcome.Redirect at) ≡ rustRedirectStatus (lastStatus ps)
+walk-redirects q ps at = refl
+
+-- WHAT DOES NOT DEPEND ON THE READING
 
 -- the call with another reading
 abbrev pub underReading : Reading → Call → Call

@@ -1,0 +1,359 @@
+-- The open points of docs/DECISIONS.md at their smallest telling inputs, as one table. Rows are named after the decision.
+use Prim.Native.Nat.{ℕ, _+_}
+use Prim.Native.String.{String}
+use mathlib.Core.Path.{_≡_, refl}
+use mathlib.Core.List.{List, [], _∷_, _++_, map}
+use mathlib.Core.Bool.{Bool, true, false}
+use lib.ListN.{length, replicate}
+use Rattle.reading.specs.declared.RuleEngineMode.{RuleEngineMode}
+use Rattle.reading.specs.declared.ModeSetting.{ModeSetting}
+use Rattle.reading.specs.declared.AccessSetting.{AccessSetting}
+use Rattle.reading.specs.declared.ProcessorSetting.{ProcessorSetting}
+use Rattle.reading.specs.declared.RuleIdRange.{RuleIdRange}
+use Rattle.reading.specs.declared.Place.{Place}
+use Rattle.reading.specs.declared.Part.{Part}
+use Rattle.reading.specs.declared.Rule.{Rule}
+use Rattle.reading.specs.declared.Action.{Action}
+use Rattle.reading.specs.declared.Marker.{Marker}
+use Rattle.reading.specs.declared.DataEntry.{DataEntry}
+use Rattle.reading.specs.declared.JournalEntry.{JournalEntry}
+use Rattle.reading.specs.declared.OptionU64.{OptionU64}
+use Rattle.reading.specs.declared.OptionIntervention.{OptionIntervention}
+use Rattle.reading.specs.Text.{ascii, largest, same, trimStart, before, trimEnd, trim, fold, allDigits, valueFrom, digits, withoutPlus, numberOf, indexOf, onFirst, splitOn, oneId, idsTo, idsFrom, idPart, anyBad, rangesIn}
+use Rattle.reading.specs.Directive.{directiveOf}
+use Rattle.reading.specs.Controls.{Controls, noControls, isRemoved, beyondLimits}
+use Rattle.reading.specs.Actions.{actionsOf, lastOf, lastDisruptive, lastFlow, metadataOf, directiveIn}
+use Rattle.reading.specs.Markers.{markerPosition}
+use Rattle.reading.specs.Reading.{Reading, rust, manual}
+use Rattle.reading.specs.Call.{Call, Transaction, ruleAt, isLink, idAt, outcomeAt, actionsAt}
+use Rattle.reading.specs.Refusals.{refused1, refused2, refused3, refused4, refused5, refused6, refused7, refused8, refused9, rangesAdded, targetsAdded, ruleRanges, ruleTargets, refusalOf}
+use Rattle.reading.specs.Units.{ruleControls, unitFlow, unitDisruptive, unitIntervention}
+use Rattle.reading.specs.Walk.{verdictAt, afterChain, visitAt, walk, walkOf}
+use Rattle.reading.specs.Outcome.{visitsOf, outcomeOf}
+use Rattle.reading.specs.Cases.Build.{Act, other, deny, block, pass, allow, drop, chain, multiMatch, redirect, skipAfter, msg, skip, id, status, ctl, Written, Named, Row, none, stopped, stoppedWith, Told, row, removal, targeting, failing, refused, rule, link, noId, noIdLink, withOutcome, missed, inError, marker, callWith, callIn, call, nothing, matched, miss, removed, error, entry, noIdEntry, lentData, lentEntry, sameIds, sameVisits, sameData, sameStop, holds, allHold}
+
+-- WHAT IS HELD AT ENTRY
+
+abbrev range : ℕ → ℕ → RuleIdRange
+range from to = record { start = from; end = to }
+
+abbrev holding : List RuleIdRange → Controls
+holding rs = record { mode = ModeSetting.Unset; ranges = rs; targets = []; access = AccessSetting.Unset; processor = ProcessorSetting.Unset }
+
+abbrev inMode : RuleEngineMode → Controls
+inMode m = record { mode = ModeSetting.Set m; ranges = []; targets = []; access = AccessSetting.Unset; processor = ProcessorSetting.Unset }
+
+-- a call with ranges held, and one in the manual's reading
+abbrev callHolding : List RuleIdRange → List Written → Call
+callHolding rs ws = callWith rust RuleEngineMode.On (holding rs) false ws []
+
+abbrev callManual : List Written → List Named → Call
+callManual ws ms = callWith manual RuleEngineMode.On noControls false ws ms
+
+-- A CALL WITH OTHER RECORDS OR LISTS
+
+abbrev withRecords : List Rule → List Action → List Marker → List ℕ → List ℕ → Call → Call
+withRecords rules actions markers text outcomes q = record {
+  reading = q .reading;
+  phase = q .phase;
+  mode = q .mode;
+  status = q .status;
+  rules = rules;
+  actions = actions;
+  markers = markers;
+  text = text;
+  outcomes = outcomes;
+  transaction = q .transaction;
+  ids = q .ids;
+  data-entries = q .data-entries;
+  journal = q .journal;
+}
+
+abbrev withLists : ℕ → ℕ → List ℕ → List DataEntry → List JournalEntry → Call → Call
+withLists phase mode ids entries journal q = record {
+  reading = q .reading;
+  phase = phase;
+  mode = mode;
+  status = q .status;
+  rules = q .rules;
+  actions = q .actions;
+  markers = q .markers;
+  text = q .text;
+  outcomes = q .outcomes;
+  transaction = q .transaction;
+  ids = ids;
+  data-entries = entries;
+  journal = journal;
+}
+
+-- the same call with other outcomes, with one action more that no rule points to, and with other rules
+abbrev withOutcomes : List ℕ → Call → Call
+withOutcomes outcomes q = withRecords (q .rules) (q .actions) (q .markers) (q .text) outcomes q
+
+abbrev withAction : Action → Call → Call
+withAction a q = withRecords (q .rules) (q .actions ++ (a ∷ [])) (q .markers) (q .text) (q .outcomes) q
+
+abbrev withRules : List Rule → Call → Call
+withRules rules q = withRecords rules (q .actions) (q .markers) (q .text) (map (λ r. 2) rules) q
+
+abbrev withText : List ℕ → Call → Call
+withText text q = withRecords (q .rules) (q .actions) (q .markers) text (q .outcomes) q
+
+abbrev withMarker : ℕ → ℕ → ℕ → Call → Call
+withMarker start len position q =
+    withRecords (q .rules) (q .actions) (q .markers ++ (record { name = record { start = start; len = len }; position = position } ∷ [])) (q .text) (q .outcomes) q
+
+abbrev withJournal : List JournalEntry → Call → Call
+withJournal journal q = withLists (q .phase) (q .mode) (q .ids) (q .data-entries) journal q
+
+abbrev withData : List DataEntry → Call → Call
+withData entries q = withLists (q .phase) (q .mode) (q .ids) entries (q .journal) q
+
+abbrev withIds : List ℕ → Call → Call
+withIds ids q = withLists (q .phase) (q .mode) ids (q .data-entries) (q .journal) q
+
+abbrev inPhase : ℕ → Call → Call
+inPhase phase q = withLists phase (q .mode) (q .ids) (q .data-entries) (q .journal) q
+
+abbrev withMode : ℕ → Call → Call
+withMode mode q = withLists (q .phase) mode (q .ids) (q .data-entries) (q .journal) q
+
+abbrev action : ℕ → ℕ → ℕ → ℕ → ℕ → ℕ → Action
+action kind number start len start′ len′ =
+    record { kind = kind; number = number; text = record { start = start; len = len }; value = record { start = start′; len = len′ } }
+
+-- a rule without an id whose actions are `count` from `first` on
+abbrev sharing : ℕ → ℕ → Rule
+sharing first count = record { present = 0; id = 0; link = 0; first = first; count = count }
+
+-- so many times the same
+abbrev times : {A : Type 0} → ℕ → A → List A
+times n a = replicate n a
+
+abbrev told : String → String → Bool → Told
+told directive value supported = record { directive = directive; value = value; supported = supported }
+
+abbrev removes : String → Bool → Told
+removes value supported = told "ruleRemoveById" value supported
+
+pub directives : List Told
+directives =
+    -- D1: six blanks are trimmed at both ends and nowhere else
+    told "\t ruleEngine \r\n" " on\t" true
+    ∷ told "rule Engine" "On" false
+    ∷ told "" "On" false
+    ∷ told "\u{1f}ruleEngine" "On" false
+    ∷ told "RULEENGINE" "dETECTIONoNLY" true
+    ∷ told "ruleEngine" "Detection" false
+    ∷ told "requestBodyAccess" "off" true
+    ∷ told "requestBodyAccess" "DetectionOnly" false
+    ∷ told "requestBodyProcessor" "xml" true
+    ∷ told "requestBodyProcessor" "yaml" false
+    ∷ told "auditEngine" "On" false
+    ∷ told "auditLogParts" "+E" false
+    -- D2: both numbers of a range are trimmed
+    ∷ removes "5 - 7" true
+    ∷ removes "+5-+7" true
+    ∷ removes "5-6-7" false
+    ∷ removes "-5" false
+    ∷ removes "5-" false
+    ∷ removes "+-5" false
+    ∷ removes "+ 5" false
+    -- D3: the value is limited, the count of digits is not
+    ∷ removes "000000000000000000001" true
+    ∷ removes "18446744073709551615" true
+    ∷ removes "18446744073709551616" false
+    ∷ removes "184467440737095516150" false
+    -- D4: no part, and equal ends
+    ∷ removes "" false
+    ∷ removes " , ," false
+    ∷ removes "5-5" true
+    ∷ removes "1,,2," true
+    -- D8: the text before the ";" need not be a number
+    ∷ told "ruleRemoveTargetById" " x ;y" true
+    ∷ told "ruleRemoveTargetById" "1;" false
+    ∷ told "ruleRemoveTargetById" ";ARGS" false
+    ∷ told "ruleRemoveTargetById" "1 ARGS" false
+    ∷ told "ruleRemoveTargetById" "1;A;B" true
+    ∷ []
+
+pub points : List Row
+points =
+    -- the directives above, with a call without rules
+    removal "D1" (call [] []) nothing 0 [] [] directives
+    -- a target counts, whatever its id text
+    ∷ targeting "D8" (call (rule 10 (ctl "ruleRemoveTargetById" " x ;y" ∷ []) ∷ []) []) (record { visits = matched 0 ∷ []; ids = 10 ∷ []; data-entries = entry 10 0 ∷ []; allowed = false; stop = none }) 1
+    -- a range that is held already is added again
+    ∷ removal "D11" (callHolding (range 7 7 ∷ []) (rule 10 (ctl "ruleRemoveById" "7,7" ∷ ctl "ruleRemoveById" "7" ∷ []) ∷ [])) (record { visits = matched 0 ∷ []; ids = 10 ∷ []; data-entries = entry 10 0 ∷ []; allowed = false; stop = none }) 4 (7 ∷ []) (6 ∷ 8 ∷ []) []
+    -- a held range with start above end removes nothing
+    ∷ removal "D15" (callHolding (range 5 4 ∷ []) (rule 5 [] ∷ [])) (record { visits = matched 0 ∷ []; ids = 5 ∷ []; data-entries = entry 5 0 ∷ []; allowed = false; stop = none }) 1 [] (4 ∷ 5 ∷ []) []
+    -- the mode in force is the one the controls hold, if any
+    ∷ row "D24a" (callWith rust RuleEngineMode.Off (inMode RuleEngineMode.On) false (rule 10 [] ∷ []) []) (record { visits = matched 0 ∷ []; ids = 10 ∷ []; data-entries = entry 10 0 ∷ []; allowed = false; stop = none })
+    ∷ row "D24b" (callWith rust RuleEngineMode.On (inMode RuleEngineMode.Off) false (rule 10 [] ∷ []) []) nothing
+    -- already allowed
+    ∷ row "D24c" (callWith rust RuleEngineMode.On noControls true (rule 10 (deny ∷ []) ∷ []) []) (record { visits = []; ids = []; data-entries = []; allowed = true; stop = none })
+    -- mode Off
+    ∷ row "D25" (callIn RuleEngineMode.Off (rule 10 (deny ∷ []) ∷ []) []) nothing
+    -- a removed rule's outcome is not looked at
+    ∷ removal "D26" (callHolding (range 10 10 ∷ []) (inError (rule 10 []) ∷ [])) (record { visits = removed 0 ∷ []; ids = []; data-entries = []; allowed = false; stop = none }) 1 (10 ∷ []) [] []
+    -- a missed link passes the rest of its chain
+    ∷ row "D27" (call (missed (link 1 []) ∷ link 2 [] ∷ rule 3 [] ∷ rule 4 [] ∷ []) []) (record { visits = miss 0 ∷ matched 3 ∷ []; ids = 4 ∷ []; data-entries = entry 4 3 ∷ []; allowed = false; stop = none })
+    -- the next rule visited belongs to the open chain
+    ∷ removal "D28" (callHolding (range 2 2 ∷ []) (link 1 [] ∷ rule 2 [] ∷ missed (link 3 []) ∷ rule 4 [] ∷ rule 5 [] ∷ [])) (record { visits = matched 0 ∷ removed 1 ∷ miss 2 ∷ matched 4 ∷ []; ids = 5 ∷ []; data-entries = entry 5 4 ∷ []; allowed = false; stop = none }) 1 (2 ∷ []) [] []
+    -- and may close it
+    ∷ removal "D28b" (callHolding (range 2 2 ∷ []) (link 1 [] ∷ rule 2 [] ∷ link 3 [] ∷ rule 4 [] ∷ [])) (record { visits = matched 0 ∷ removed 1 ∷ matched 2 ∷ matched 3 ∷ []; ids = 1 ∷ []; data-entries = entry 1 0 ∷ entry 3 2 ∷ entry 4 3 ∷ []; allowed = false; stop = none }) 1 (2 ∷ []) [] []
+    -- a removed link breaks it
+    ∷ removal "D28c" (callHolding (range 2 2 ∷ []) (link 1 (deny ∷ []) ∷ link 2 [] ∷ rule 3 [] ∷ rule 4 [] ∷ [])) (record { visits = matched 0 ∷ removed 1 ∷ matched 3 ∷ []; ids = 4 ∷ []; data-entries = entry 4 3 ∷ []; allowed = false; stop = none }) 1 (2 ∷ []) [] []
+    -- the listed id is the starter's
+    ∷ row "D29" (call (noIdLink [] ∷ rule 21 [] ∷ []) []) (record { visits = matched 0 ∷ matched 1 ∷ []; ids = []; data-entries = noIdEntry 0 ∷ entry 21 1 ∷ []; allowed = false; stop = none })
+    -- ids repeat
+    ∷ row "D30" (call (rule 1 [] ∷ rule 1 [] ∷ []) []) (record { visits = matched 0 ∷ matched 1 ∷ []; ids = 1 ∷ 1 ∷ []; data-entries = entry 1 0 ∷ entry 1 1 ∷ []; allowed = false; stop = none })
+    -- the rule's id and the id action's
+    ∷ row "D31a" (call ((record { id = OptionU64.Some 10; link = 0; outcome = 2; acts = (id 11 ∷ deny ∷ []) }) ∷ []) []) (record { visits = matched 0 ∷ []; ids = 10 ∷ []; data-entries = entry 10 0 ∷ []; allowed = false; stop = stopped 403 (10 ∷ 11 ∷ []) })
+    ∷ row "D31b" (call (noId (id 11 ∷ deny ∷ []) ∷ []) []) (record { visits = matched 0 ∷ []; ids = []; data-entries = noIdEntry 0 ∷ []; allowed = false; stop = stopped 403 (11 ∷ []) })
+    ∷ row "D31c" (call ((record { id = OptionU64.Some 20; link = 1; outcome = 2; acts = (deny ∷ []) }) ∷ noId [] ∷ []) []) (record { visits = matched 0 ∷ matched 1 ∷ []; ids = 20 ∷ []; data-entries = entry 20 0 ∷ entry 20 1 ∷ []; allowed = false; stop = stopped 403 [] })
+    -- the last id action counts
+    ∷ row "D31d" (call ((record { id = OptionU64.Some 10; link = 0; outcome = 2; acts = (id 11 ∷ id 12 ∷ deny ∷ []) }) ∷ []) []) (record { visits = matched 0 ∷ []; ids = 10 ∷ []; data-entries = entry 10 0 ∷ []; allowed = false; stop = stopped 403 (10 ∷ 12 ∷ []) })
+    -- a member without an id takes the starter's
+    ∷ row "D32" (call (link 20 [] ∷ noId [] ∷ []) []) (record { visits = matched 0 ∷ matched 1 ∷ []; ids = 20 ∷ []; data-entries = entry 20 0 ∷ entry 20 1 ∷ []; allowed = false; stop = none })
+    -- outcome 1 gives no data entry
+    ∷ row "D32b" (call (withOutcome 1 (link 20 []) ∷ rule 21 [] ∷ []) []) (record { visits = matched 0 ∷ matched 1 ∷ []; ids = 20 ∷ []; data-entries = entry 21 1 ∷ []; allowed = false; stop = none })
+    -- a chain that breaks has written nothing
+    ∷ row "D33" (call (link 20 [] ∷ missed (rule 21 []) ∷ []) []) (record { visits = matched 0 ∷ miss 1 ∷ []; ids = []; data-entries = []; allowed = false; stop = none })
+    -- nor one that stays open
+    ∷ row "D33b" (call (rule 19 [] ∷ link 20 (deny ∷ ctl "ruleEngine" "Off" ∷ []) ∷ []) []) (record { visits = matched 0 ∷ matched 1 ∷ []; ids = 19 ∷ []; data-entries = entry 19 0 ∷ []; allowed = false; stop = none })
+    -- an action that two members share acts for each
+    ∷ targeting "D34" (withRules (record { present = 0; id = 0; link = 1; first = 0; count = 1 } ∷ sharing 0 1 ∷ []) (withOutcomes (2 ∷ 2 ∷ []) (call (noId (ctl "ruleRemoveTargetById" "1;A" ∷ []) ∷ noId [] ∷ []) []))) (record { visits = matched 0 ∷ matched 1 ∷ []; ids = []; data-entries = noIdEntry 0 ∷ noIdEntry 1 ∷ []; allowed = false; stop = none }) 2
+    -- only the mode after all of a unit's controls counts
+    ∷ row "D35" (callIn RuleEngineMode.DetectionOnly (rule 10 (ctl "ruleEngine" "Off" ∷ ctl "ruleEngine" "On" ∷ deny ∷ []) ∷ []) []) (record { visits = matched 0 ∷ []; ids = 10 ∷ []; data-entries = entry 10 0 ∷ []; allowed = false; stop = stopped 403 (10 ∷ []) })
+    -- a mode that any member sets counts
+    ∷ row "D36a" (call (link 1 (deny ∷ []) ∷ rule 2 (ctl "ruleEngine" "DetectionOnly" ∷ []) ∷ []) []) (record { visits = matched 0 ∷ matched 1 ∷ []; ids = 1 ∷ []; data-entries = entry 1 0 ∷ entry 2 1 ∷ []; allowed = false; stop = none })
+    ∷ row "D36b" (callIn RuleEngineMode.DetectionOnly (link 1 (deny ∷ []) ∷ rule 2 (ctl "ruleEngine" "On" ∷ []) ∷ []) []) (record { visits = matched 0 ∷ matched 1 ∷ []; ids = 1 ∷ []; data-entries = entry 1 0 ∷ entry 2 1 ∷ []; allowed = false; stop = stopped 403 (2 ∷ 1 ∷ []) })
+    -- a link's controls wait
+    ∷ removal "D36c" (call (link 1 (ctl "ruleRemoveById" "2" ∷ []) ∷ rule 2 [] ∷ rule 2 [] ∷ []) []) (record { visits = matched 0 ∷ matched 1 ∷ removed 2 ∷ []; ids = 1 ∷ []; data-entries = entry 1 0 ∷ entry 2 1 ∷ []; allowed = false; stop = none }) 1 (2 ∷ []) (1 ∷ []) []
+    -- allow takes effect in Off
+    ∷ row "D37" (call (rule 10 (ctl "ruleEngine" "Off" ∷ allow ∷ []) ∷ rule 11 [] ∷ []) []) (record { visits = matched 0 ∷ []; ids = 10 ∷ []; data-entries = entry 10 0 ∷ []; allowed = true; stop = none })
+    -- a stop leaves flow without effect
+    ∷ row "D38" (call (rule 10 (skip 1 ∷ deny ∷ []) ∷ rule 11 [] ∷ rule 12 [] ∷ []) []) (record { visits = matched 0 ∷ []; ids = 10 ∷ []; data-entries = entry 10 0 ∷ []; allowed = false; stop = stopped 403 (10 ∷ []) })
+    -- pass is a disruptive action
+    ∷ row "D39a" (call (rule 10 (deny ∷ pass ∷ []) ∷ []) []) (record { visits = matched 0 ∷ []; ids = 10 ∷ []; data-entries = entry 10 0 ∷ []; allowed = false; stop = none })
+    ∷ row "D39b" (call (rule 10 (allow ∷ pass ∷ []) ∷ []) []) (record { visits = matched 0 ∷ []; ids = 10 ∷ []; data-entries = entry 10 0 ∷ []; allowed = false; stop = none })
+    -- the address of a redirect
+    ∷ row "D40a" (call (rule 10 (redirect "a" ∷ redirect "b" ∷ []) ∷ []) []) (record { visits = matched 0 ∷ []; ids = 10 ∷ []; data-entries = entry 10 0 ∷ []; allowed = false; stop = stoppedWith 302 (10 ∷ []) (OptionU64.Some 2) OptionU64.None false })
+    ∷ row "D40b" (call (rule 10 (redirect "a" ∷ deny ∷ []) ∷ []) []) (record { visits = matched 0 ∷ []; ids = 10 ∷ []; data-entries = entry 10 0 ∷ []; allowed = false; stop = stopped 403 (10 ∷ []) })
+    ∷ row "D40c" (call (rule 10 (deny ∷ redirect "a" ∷ []) ∷ []) []) (record { visits = matched 0 ∷ []; ids = 10 ∷ []; data-entries = entry 10 0 ∷ []; allowed = false; stop = stoppedWith 302 (10 ∷ []) (OptionU64.Some 2) OptionU64.None false })
+    -- drop
+    ∷ row "D40d" (call (rule 10 (drop ∷ []) ∷ []) []) (record { visits = matched 0 ∷ []; ids = 10 ∷ []; data-entries = entry 10 0 ∷ []; allowed = false; stop = stoppedWith 444 (10 ∷ []) OptionU64.None OptionU64.None true })
+    -- block has the caller's default status
+    ∷ row "D41" (call (rule 10 (block ∷ status 406 ∷ []) ∷ []) []) (record { visits = matched 0 ∷ []; ids = 10 ∷ []; data-entries = entry 10 0 ∷ []; allowed = false; stop = stopped 500 (10 ∷ []) })
+    -- a position counts in the whole action list
+    ∷ row "D42" (call (rule 10 [] ∷ rule 11 (redirect "a" ∷ []) ∷ []) []) (record { visits = matched 0 ∷ matched 1 ∷ []; ids = 10 ∷ 11 ∷ []; data-entries = entry 10 0 ∷ entry 11 1 ∷ []; allowed = false; stop = stoppedWith 302 (11 ∷ []) (OptionU64.Some 2) OptionU64.None false })
+    -- the log is the starter's msg
+    ∷ row "D44a" (call (link 1 (deny ∷ []) ∷ rule 2 (msg "x" ∷ []) ∷ []) []) (record { visits = matched 0 ∷ matched 1 ∷ []; ids = 1 ∷ []; data-entries = entry 1 0 ∷ entry 2 1 ∷ []; allowed = false; stop = stopped 403 (2 ∷ 1 ∷ []) })
+    ∷ row "D44b" (call (link 1 (msg "w" ∷ deny ∷ msg "x" ∷ []) ∷ rule 2 [] ∷ []) []) (record { visits = matched 0 ∷ matched 1 ∷ []; ids = 1 ∷ []; data-entries = entry 1 0 ∷ entry 2 1 ∷ []; allowed = false; stop = stoppedWith 403 (2 ∷ 1 ∷ []) OptionU64.None (OptionU64.Some 3) false })
+    -- the latest record of a name decides
+    ∷ row "D45a" (call (rule 30 (skipAfter "A" ∷ []) ∷ rule 31 [] ∷ rule 32 [] ∷ []) (marker "A" 2 ∷ marker "A" 0 ∷ [])) (record { visits = matched 0 ∷ []; ids = 30 ∷ []; data-entries = entry 30 0 ∷ []; allowed = false; stop = none })
+    -- an empty name is a name
+    ∷ row "D45b" (call (rule 30 (skipAfter "" ∷ []) ∷ rule 31 [] ∷ rule 32 [] ∷ []) (marker "" 2 ∷ [])) (record { visits = matched 0 ∷ matched 2 ∷ []; ids = 30 ∷ 32 ∷ []; data-entries = entry 30 0 ∷ entry 32 2 ∷ []; allowed = false; stop = none })
+    -- the latest, also where it is the first that can be used
+    ∷ row "D45c" (call (rule 30 (skipAfter "A" ∷ []) ∷ rule 31 [] ∷ rule 32 [] ∷ rule 33 [] ∷ []) (marker "A" 2 ∷ marker "B" 0 ∷ marker "A" 3 ∷ [])) (record { visits = matched 0 ∷ matched 3 ∷ []; ids = 30 ∷ 33 ∷ []; data-entries = entry 30 0 ∷ entry 33 3 ∷ []; allowed = false; stop = none })
+    -- names are neither folded nor trimmed
+    ∷ row "D46a" (call (rule 30 (skipAfter "a" ∷ []) ∷ rule 31 [] ∷ rule 32 [] ∷ []) (marker "A" 2 ∷ [])) (record { visits = matched 0 ∷ []; ids = 30 ∷ []; data-entries = entry 30 0 ∷ []; allowed = false; stop = none })
+    ∷ row "D46b" (call (rule 30 (skipAfter " A" ∷ []) ∷ rule 31 [] ∷ rule 32 [] ∷ []) (marker "A" 2 ∷ [])) (record { visits = matched 0 ∷ []; ids = 30 ∷ []; data-entries = entry 30 0 ∷ []; allowed = false; stop = none })
+    -- a marker at the rule count
+    ∷ row "D47" (call (rule 30 (skipAfter "A" ∷ []) ∷ rule 31 [] ∷ []) (marker "A" 2 ∷ [])) (record { visits = matched 0 ∷ []; ids = 30 ∷ []; data-entries = entry 30 0 ∷ []; allowed = false; stop = none })
+    -- a jump into a chain makes the link landed on a starter
+    ∷ row "D48" (call (rule 1 (skipAfter "A" ∷ []) ∷ rule 2 [] ∷ link 3 (deny ∷ []) ∷ rule 4 [] ∷ []) (marker "A" 2 ∷ [])) (record { visits = matched 0 ∷ matched 2 ∷ matched 3 ∷ []; ids = 1 ∷ 3 ∷ []; data-entries = entry 1 0 ∷ entry 3 2 ∷ entry 4 3 ∷ []; allowed = false; stop = stopped 403 (4 ∷ 3 ∷ []) })
+    -- the flow is the starter's
+    ∷ row "D48b" (call (link 1 (skip 1 ∷ []) ∷ rule 2 (skip 2 ∷ []) ∷ rule 3 [] ∷ rule 4 [] ∷ []) []) (record { visits = matched 0 ∷ matched 1 ∷ matched 3 ∷ []; ids = 1 ∷ 4 ∷ []; data-entries = entry 1 0 ∷ entry 2 1 ∷ entry 4 3 ∷ []; allowed = false; stop = none })
+    -- skip:2,multiMatch skips none, and so does skip:1,chain
+    ∷ row "D48c" (call (rule 1 (skip 2 ∷ multiMatch ∷ []) ∷ rule 2 (skip 1 ∷ chain ∷ []) ∷ rule 3 [] ∷ []) []) (record { visits = matched 0 ∷ matched 1 ∷ matched 2 ∷ []; ids = 1 ∷ 2 ∷ 3 ∷ []; data-entries = entry 1 0 ∷ entry 2 1 ∷ entry 3 2 ∷ []; allowed = false; stop = none })
+    -- a skip may pass the last rule
+    ∷ row "D48d" (call (rule 1 (skip 4294967295 ∷ []) ∷ rule 2 [] ∷ []) []) (record { visits = matched 0 ∷ []; ids = 1 ∷ []; data-entries = entry 1 0 ∷ []; allowed = false; stop = none })
+    -- Off set by the last rule
+    ∷ row "D49" (call (rule 10 (ctl "ruleEngine" "Off" ∷ []) ∷ []) []) (record { visits = matched 0 ∷ []; ids = 10 ∷ []; data-entries = entry 10 0 ∷ []; allowed = false; stop = none })
+    -- an error at a rule that an earlier unit removed
+    ∷ removal "D50a" (call (rule 1 (ctl "ruleRemoveById" "2" ∷ []) ∷ inError (rule 2 []) ∷ []) []) (record { visits = matched 0 ∷ removed 1 ∷ []; ids = 1 ∷ []; data-entries = entry 1 0 ∷ []; allowed = false; stop = none }) 1 (2 ∷ []) (1 ∷ []) []
+    -- an error at a rule that is passed
+    ∷ row "D50b" (call (rule 1 (skip 1 ∷ []) ∷ inError (rule 2 []) ∷ []) []) (record { visits = matched 0 ∷ []; ids = 1 ∷ []; data-entries = entry 1 0 ∷ []; allowed = false; stop = none })
+    -- the index of the rule with the error, and all closed units stand
+    ∷ failing "D51a" (call (rule 10 [] ∷ inError (rule 11 []) ∷ rule 12 [] ∷ []) []) 1 (record { visits = matched 0 ∷ error 1 ∷ []; ids = 10 ∷ []; data-entries = entry 10 0 ∷ []; allowed = false; stop = none })
+    -- an error in an open chain
+    ∷ failing "D51b" (call (link 1 [] ∷ inError (link 2 []) ∷ rule 3 [] ∷ []) []) 1 (record { visits = matched 0 ∷ error 1 ∷ []; ids = []; data-entries = []; allowed = false; stop = none })
+    -- 1: phase 0 and 6, mode 3; it comes before 2
+    ∷ refused "D13a" (inPhase 0 (call (rule 10 [] ∷ []) [])) 1
+    ∷ refused "D13b" (inPhase 6 (call (rule 10 [] ∷ []) [])) 1
+    ∷ refused "D13c" (withMode 3 (withRules (times 513 (sharing 0 0)) (call [] []))) 1
+    -- 2: one more than 512 rules, 4,096 actions and 256 markers
+    ∷ refused "D13d" (withRules (times 513 (sharing 0 0)) (call [] [])) 2
+    ∷ refused "D13e" (withRecords [] (times 4097 (action 0 0 0 0 0 0)) [] [] [] (call [] [])) 2
+    ∷ refused "D13f" (withRecords [] [] (times 257 (record { name = record { start = 0; len = 0 }; position = 0 })) [] [] (call [] [])) 2
+    -- 3: more in use than a list has
+    ∷ refused "D14a" (withIds [] (call [] [])) 3
+    ∷ refused "D14b" (withData [] (call [] [])) 3
+    -- more than 256 ranges held
+    ∷ refused "D14c" (callWith rust RuleEngineMode.On (holding (times 257 (range 1 1))) false [] []) 3
+    -- an equal count is fine for 3
+    ∷ row "D14d" (withData (lentData ∷ []) (withIds (9 ∷ []) (call [] []))) nothing
+    -- and then 7 decides
+    ∷ refused "D14e" (withIds (9 ∷ []) (call (rule 10 [] ∷ []) [])) 7
+    -- 4 comes before 5
+    ∷ refused "D16" (withOutcomes (9 ∷ 9 ∷ []) (call (rule 10 [] ∷ []) [])) 4
+    -- 5: a part that ends behind its text; (end, 0) is inside
+    ∷ refused "D17a" (withAction (action 0 0 1 0 0 0) (call [] [])) 5
+    ∷ row "D17b" (withAction (action 0 0 0 0 0 0) (call [] [])) nothing
+    ∷ refused "D17c" (withRules (sharing 1 0 ∷ []) (call [] [])) 5
+    -- no sum wraps
+    ∷ refused "D17d" (withText (65 ∷ []) (withAction (action 0 0 largest 1 0 0) (call [] []))) 5
+    ∷ refused "D17e" (withText (65 ∷ []) (withAction (action 0 0 1 largest 0 0) (call [] []))) 5
+    -- 5 reads records that no rule points to
+    ∷ refused "D18a" (withAction (action 21 0 0 0 0 0) (call [] [])) 5
+    -- a kind without a number has no limit for it
+    ∷ row "D18b" (withAction (action 1 largest 0 0 0 0) (call [] [])) nothing
+    -- both parts must lie inside the text
+    ∷ refused "D18c" (withAction (action 12 0 0 0 0 1) (call [] [])) 5
+    -- a number above the limit of its kind
+    ∷ refused "D18d" (withAction (action 8 4294967296 0 0 0 0) (call [] [])) 5
+    ∷ refused "D18e" (withAction (action 18 256 0 0 0 0) (call [] [])) 5
+    ∷ refused "D18f" (withAction (action 20 65536 0 0 0 0) (call [] [])) 5
+    -- an unknown flag, and an unknown outcome
+    ∷ refused "D18g" (withRules (record { present = 2; id = 0; link = 0; first = 0; count = 0 } ∷ []) (call [] [])) 5
+    ∷ refused "D18h" (withRules (record { present = 0; id = 0; link = 2; first = 0; count = 0 } ∷ []) (call [] [])) 5
+    ∷ refused "D18i" (withOutcomes (4 ∷ []) (call (rule 10 [] ∷ []) [])) 5
+    -- a marker above the rule count, and one whose name is outside
+    ∷ refused "D18j" (withMarker 0 0 2 (call (rule 10 [] ∷ []) [])) 5
+    ∷ refused "D18k" (withMarker 0 1 0 (call [] [])) 5
+    -- 6: a byte of 80, after 5 and before 7
+    ∷ refused "D18l" (withText (128 ∷ []) (withJournal [] (call (rule 10 [] ∷ []) []))) 6
+    -- 7: one free entry for each rule in each list
+    ∷ refused "D19a" (withData (lentData ∷ []) (call (withOutcome 1 (rule 10 []) ∷ []) [])) 7
+    ∷ refused "D19b" (withJournal [] (call (rule 10 [] ∷ []) [])) 7
+    -- 8: counted rule by rule, a shared action for each
+    ∷ refused "D20a" (withLists 2 0 (times 5 9) (times 5 lentData) (times 5 lentEntry) (withRules (sharing 0 1 ∷ sharing 0 1 ∷ []) (callWith rust RuleEngineMode.On (holding (times 255 (range 1 1))) false (noId (ctl "ruleRemoveById" "7" ∷ []) ∷ []) []))) 8
+    -- an action that is part of no rule does not count
+    ∷ removal "D20b" (withRules [] (callWith rust RuleEngineMode.On (holding (times 256 (range 1 1))) false (noId (ctl "ruleRemoveById" "7" ∷ []) ∷ []) [])) nothing 256 [] [] []
+    -- rules that are missed count
+    ∷ refused "D20c" (callWith rust RuleEngineMode.On (holding (times 256 (range 1 1))) false (missed (rule 10 (ctl "ruleRemoveById" "7" ∷ [])) ∷ []) []) 8
+    -- 9: targets, and 8 comes first
+    ∷ refused "D22a" (callWith rust RuleEngineMode.On noControls false (noId (times 65 (ctl "ruleRemoveTargetById" "1;A")) ∷ []) []) 9
+    ∷ refused "D22b" (callWith rust RuleEngineMode.On (holding (times 256 (range 1 1))) false (noId (times 65 (ctl "ruleRemoveTargetById" "1;A")) ∷ rule 11 (ctl "ruleRemoveById" "7" ∷ []) ∷ []) []) 8
+    -- a call that would do nothing is refused too
+    ∷ record { name = "D23"; given = withJournal [] (callWith rust RuleEngineMode.On noControls true (rule 10 [] ∷ []) []); answer = 7; error-index = 0; found = record { visits = []; ids = []; data-entries = []; allowed = true; stop = none }; ranges = 0; targets = 0; gone = []; kept = []; told = [] }
+    -- the manual's reading: deny has the starter's last status action as its status
+    ∷ row "D77a" (callManual (rule 10 (deny ∷ status 406 ∷ []) ∷ []) []) (record { visits = matched 0 ∷ []; ids = 10 ∷ []; data-entries = entry 10 0 ∷ []; allowed = false; stop = stopped 406 (10 ∷ []) })
+    ∷ row "D77b" (callManual (link 1 (deny ∷ []) ∷ rule 2 (status 406 ∷ []) ∷ []) []) (record { visits = matched 0 ∷ matched 1 ∷ []; ids = 1 ∷ []; data-entries = entry 1 0 ∷ entry 2 1 ∷ []; allowed = false; stop = stopped 403 (2 ∷ 1 ∷ []) })
+    ∷ row "D77c" (callManual (rule 1 (status 406 ∷ deny ∷ status 0 ∷ []) ∷ []) []) (record { visits = matched 0 ∷ []; ids = 1 ∷ []; data-entries = entry 1 0 ∷ []; allowed = false; stop = stopped 0 (1 ∷ []) })
+    -- block is as in 01
+    ∷ row "D77d" (callManual (rule 10 (block ∷ status 406 ∷ []) ∷ []) []) (record { visits = matched 0 ∷ []; ids = 10 ∷ []; data-entries = entry 10 0 ∷ []; allowed = false; stop = stopped 500 (10 ∷ []) })
+    -- a removed closing rule breaks the chain
+    ∷ removal "D78" (callManual (rule 40 (ctl "ruleRemoveById" "42" ∷ []) ∷ link 41 (deny ∷ []) ∷ rule 42 [] ∷ rule 43 [] ∷ []) []) (record { visits = matched 0 ∷ matched 1 ∷ removed 2 ∷ matched 3 ∷ []; ids = 40 ∷ 43 ∷ []; data-entries = entry 40 0 ∷ entry 43 3 ∷ []; allowed = false; stop = none }) 1 (42 ∷ []) [] []
+    -- a marker directly behind is jumped to
+    ∷ row "D79a" (callManual (rule 30 (skipAfter "A" ∷ []) ∷ rule 31 (deny ∷ []) ∷ []) (marker "A" 1 ∷ [])) (record { visits = matched 0 ∷ matched 1 ∷ []; ids = 30 ∷ 31 ∷ []; data-entries = entry 30 0 ∷ entry 31 1 ∷ []; allowed = false; stop = stopped 403 (31 ∷ []) })
+    -- a smaller position is not
+    ∷ row "D79b" (callManual (rule 30 (skipAfter "A" ∷ []) ∷ rule 31 [] ∷ []) (marker "A" 0 ∷ [])) (record { visits = matched 0 ∷ []; ids = 30 ∷ []; data-entries = entry 30 0 ∷ []; allowed = false; stop = none })
+    ∷ []
+
+-- every row holds
+pub point-table : allHold points ≡ true
+unfolding points directives allHold holds sameIds sameVisits sameData sameStop same trimStart before trimEnd trim fold allDigits valueFrom digits withoutPlus numberOf indexOf onFirst splitOn oneId idsTo idsFrom idPart anyBad rangesIn directiveOf isRemoved beyondLimits actionsOf lastOf lastDisruptive lastFlow metadataOf directiveIn markerPosition ruleAt isLink idAt outcomeAt actionsAt refused1 refused2 refused3 refused4 refused5 refused6 refused7 refused8 refused9 rangesAdded targetsAdded ruleRanges ruleTargets refusalOf ruleControls unitFlow unitDisruptive unitIntervention verdictAt afterChain visitAt walk walkOf visitsOf outcomeOf
+point-table = refl

@@ -1,0 +1,5 @@
+//! The published Rust as one crate. `build.rs` checks the published files,
+//! copies them to the build folder, puts the stand-ins beside them and appends
+//! one module line to three of them; the whole is taken in here.
+
+include!(concat!(env!("OUT_DIR"), "/tree/root.rs"));
