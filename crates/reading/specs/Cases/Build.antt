@@ -24,14 +24,16 @@ use Rattle.reading.specs.Controls.{Controls, noControls, isRemoved}
 use Rattle.reading.specs.Reading.{Reading, rust}
 use Rattle.reading.specs.Call.{Call, Transaction}
 use Rattle.reading.specs.Units.{interventionIds}
+use Rattle.reading.specs.Replay.{replayedIds, replayedData, replayedControls, replayedAllow, replayedIntervention}
 use Rattle.reading.specs.Outcome.{Outcome, outcomeOf}
+use Rattle.reading.specs.Demand3.{foundJournal}
 
 -- AN ACTION AS IT IS WRITTEN
 
 pub data Act : Type 0 where
   other deny block pass allow drop chain multiMatch : Act
-  redirect skipAfter msg : String → Act
-  skip id status : ℕ → Act
+  redirect skipAfter msg logdata rev ver : String → Act
+  skip id severity maturity accuracy status : ℕ → Act
   ctl : String → String → Act
 
 -- 01's kind, the number, and the two texts
@@ -49,6 +51,12 @@ actKind (skipAfter s) = 9
 actKind multiMatch = 10
 actKind (id n) = 11
 actKind (msg s) = 12
+actKind (logdata s) = 13
+actKind (rev s) = 14
+actKind (ver s) = 15
+actKind (severity n) = 16
+actKind (maturity n) = 17
+actKind (accuracy n) = 18
 actKind (ctl d v) = 19
 actKind (status n) = 20
 
@@ -66,6 +74,12 @@ actNumber (skipAfter s) = 0
 actNumber multiMatch = 0
 actNumber (id n) = n
 actNumber (msg s) = 0
+actNumber (logdata s) = 0
+actNumber (rev s) = 0
+actNumber (ver s) = 0
+actNumber (severity n) = n
+actNumber (maturity n) = n
+actNumber (accuracy n) = n
 actNumber (ctl d v) = 0
 actNumber (status n) = n
 
@@ -83,6 +97,12 @@ actText (skipAfter s) = ascii s
 actText multiMatch = []
 actText (id n) = []
 actText (msg s) = ascii s
+actText (logdata s) = ascii s
+actText (rev s) = ascii s
+actText (ver s) = ascii s
+actText (severity n) = []
+actText (maturity n) = []
+actText (accuracy n) = []
 actText (ctl d v) = ascii d
 actText (status n) = []
 
@@ -100,6 +120,12 @@ actValue (skipAfter s) = []
 actValue multiMatch = []
 actValue (id n) = []
 actValue (msg s) = []
+actValue (logdata s) = []
+actValue (rev s) = []
+actValue (ver s) = []
+actValue (severity n) = []
+actValue (maturity n) = []
+actValue (accuracy n) = []
 actValue (ctl d v) = ascii v
 actValue (status n) = []
 
@@ -357,6 +383,16 @@ abbrev pub allGone : Controls → Bool → List ℕ → Bool
 allGone c gone [] = true
 allGone c gone (n ∷ ns) = eqBool (isRemoved (c .ranges) (OptionU64.Some n)) gone && allGone c gone ns
 
+-- the replay of the journal found gives the same
+abbrev pub holdsReplayed : Row → List JournalEntry → Bool
+holdsReplayed r journal =
+    same (replayedIds (r .given) journal) (r .found .ids)
+    && sameData (replayedData (r .given) journal) (r .found .data-entries)
+    && eqBool (r .given .transaction .allowed || replayedAllow (r .given) journal) (r .found .allowed)
+    && sameStop (replayedIntervention (r .given) journal) (r .found .stop)
+    && eqb (length (replayedControls (r .given) journal .ranges)) (r .ranges)
+    && eqb (length (replayedControls (r .given) journal .targets)) (r .targets)
+
 -- the first entry of the two lists is in use and stays
 abbrev pub holdsAfter : Row → Outcome → Bool
 holdsAfter r o =
@@ -380,6 +416,7 @@ holdsAfter r o =
     && allGone (o .transaction .controls) true (r .gone)
     && allGone (o .transaction .controls) false (r .kept)
     && allTold (r .told)
+    && holdsReplayed r (foundJournal o)
 
 unfoldable pub holds : Row → Bool
 holds r = holdsAfter r (outcomeOf (r .given))

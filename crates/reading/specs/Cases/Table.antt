@@ -14,6 +14,7 @@ use Rattle.reading.specs.Call.{Call, ruleAt, isLink, idAt, outcomeAt, ac
 use Rattle.reading.specs.Refusals.{refused1, refused2, refused3, refused4, refused5, refused6, refused7, refused8, refused9, rangesAdded, targetsAdded, ruleRanges, ruleTargets, refusalOf}
 use Rattle.reading.specs.Units.{ruleControls, unitFlow, unitDisruptive, unitIntervention}
 use Rattle.reading.specs.Walk.{verdictAt, afterChain, visitAt, walk, walkOf}
+use Rattle.reading.specs.Replay.{unitsOf, lastClosed}
 use Rattle.reading.specs.Outcome.{visitsOf, outcomeOf}
 use Rattle.reading.specs.Cases.Build.{Act, deny, pass, allow, skip, skipAfter, ctl, status, Row, none, stopped, Told, row, removal, rule, link, noId, missed, marker, call, callIn, matched, miss, removed, entry, sameIds, sameVisits, sameData, sameStop, holds, allHold}
 
@@ -77,5 +78,5 @@ cases =
 
 -- every row holds
 pub table : allHold cases ≡ true
-unfolding cases allHold holds sameIds sameVisits sameData sameStop same trimStart before trimEnd trim fold allDigits valueFrom digits withoutPlus numberOf indexOf onFirst splitOn oneId idsTo idsFrom idPart anyBad rangesIn directiveOf isRemoved beyondLimits actionsOf lastOf lastDisruptive lastFlow metadataOf directiveIn markerPosition ruleAt isLink idAt outcomeAt actionsAt refused1 refused2 refused3 refused4 refused5 refused6 refused7 refused8 refused9 rangesAdded targetsAdded ruleRanges ruleTargets refusalOf ruleControls unitFlow unitDisruptive unitIntervention verdictAt afterChain visitAt walk walkOf visitsOf outcomeOf
+unfolding cases allHold holds sameIds sameVisits sameData sameStop same trimStart before trimEnd trim fold allDigits valueFrom digits withoutPlus numberOf indexOf onFirst splitOn oneId idsTo idsFrom idPart anyBad rangesIn directiveOf isRemoved beyondLimits actionsOf lastOf lastDisruptive lastFlow metadataOf directiveIn markerPosition ruleAt isLink idAt outcomeAt actionsAt refused1 refused2 refused3 refused4 refused5 refused6 refused7 refused8 refused9 rangesAdded targetsAdded ruleRanges ruleTargets refusalOf ruleControls unitFlow unitDisruptive unitIntervention verdictAt afterChain visitAt walk walkOf visitsOf outcomeOf unitsOf lastClosed
 table = refl
