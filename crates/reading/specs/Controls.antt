@@ -3,7 +3,7 @@ use Prim.Native.Nat.{ℕ, zero, suc}
 use mathlib.Core.Bool.{Bool, true, false, cond, _&&_, _||_}
 use mathlib.Core.List.{List, [], _∷_, _++_}
 use lib.ListN.{length, getD}
-use lib.Dec.{ltb, leb}
+use lib.Dec.{ltb, leb, eqb}
 use Rattle.reading.specs.declared.RuleEngineMode.{RuleEngineMode}
 use Rattle.reading.specs.declared.BodyAccess.{BodyAccess}
 use Rattle.reading.specs.declared.BodyProcessor.{BodyProcessor}
@@ -13,7 +13,8 @@ use Rattle.reading.specs.declared.ProcessorSetting.{ProcessorSetting}
 use Rattle.reading.specs.declared.RuleIdRange.{RuleIdRange}
 use Rattle.reading.specs.declared.Place.{Place}
 use Rattle.reading.specs.declared.OptionU64.{OptionU64}
-use Rattle.reading.specs.Lists.{any}
+use Rattle.reading.specs.declared.OptionPlace.{OptionPlace}
+use Rattle.reading.specs.Lists.{any, keep}
 use Rattle.reading.specs.Directive.{Directive, ruleEngine, ruleRemoveById, ruleRemoveTargetById, requestBodyAccess, requestBodyProcessor, unsupported}
 
 -- 01: "Addresses, msg and targets are likewise kept as phase and action position."
@@ -93,9 +94,39 @@ mostTargets = 64
 unfoldable pub beyondLimits : Controls → Bool
 beyondLimits c = ltb mostRanges (length (c .ranges)) || ltb mostTargets (length (c .targets))
 
+-- what a question answers: 0 and the value, or 3 and what stands in for it
+pub record Asked (A : Type 0) : Type 0 where
+  pub answer : ℕ
+  pub value : A
+
 -- 01: "Questions to the controls give only 3"
-abbrev pub questionAnswer : Controls → ℕ
-questionAnswer c = cond (beyondLimits c) 3 0
+abbrev pub asked : {A : Type 0} → Controls → A → A → Asked A
+asked c value other = cond (beyondLimits c) (record { answer = 3; value = other }) (record { answer = 0; value = value })
+
+-- the mode given the rule set's; whether an id, or none, is removed; how many targets there are, and which is the one at a
+-- place, if any; the body access; the body processor, if set
+abbrev pub askMode : RuleEngineMode → Controls → Asked RuleEngineMode
+askMode configured c = asked c (modeOr configured (c .mode)) configured
+
+abbrev pub askRemoved : Controls → OptionU64 → Asked Bool
+askRemoved c id = asked c (isRemoved (c .ranges) id) false
+
+abbrev pub askTargetCount : Controls → Asked ℕ
+askTargetCount c = asked c (length (c .targets)) 0
+
+abbrev pub placeAt : List Place → ℕ → OptionPlace
+placeAt [] k = OptionPlace.None
+placeAt (p ∷ ps) zero = OptionPlace.Some p
+placeAt (p ∷ ps) (suc k) = placeAt ps k
+
+abbrev pub askTarget : Controls → ℕ → Asked OptionPlace
+askTarget c k = asked c (placeAt (c .targets) k) OptionPlace.None
+
+abbrev pub askAccess : Controls → Asked BodyAccess
+askAccess c = asked c (accessOf (c .access)) BodyAccess.On
+
+abbrev pub askProcessor : Controls → Asked ProcessorSetting
+askProcessor c = asked c (c .processor) ProcessorSetting.Unset
 
 -- 01: "a range or target added singly gives 3, 5 (start above end), then 8 or 9"
 unfoldable pub addRangeAnswer : Controls → RuleIdRange → ℕ
@@ -103,3 +134,22 @@ addRangeAnswer c r = cond (beyondLimits c) 3 (cond (ltb (r .end) (r .start)) 5 (
 
 unfoldable pub addTargetAnswer : Controls → ℕ
 addTargetAnswer c = cond (beyondLimits c) 3 (cond (leb mostTargets (length (c .targets))) 9 0)
+
+-- the controls after it: as before where the answer is not 0
+abbrev pub withRange : Controls → RuleIdRange → Controls
+withRange c r = record {
+  mode = c .mode;
+  ranges = c .ranges ++ keep (eqb (addRangeAnswer c r) 0) (r ∷ []);
+  targets = c .targets;
+  access = c .access;
+  processor = c .processor;
+}
+
+abbrev pub withTarget : Controls → Place → Controls
+withTarget c at = record {
+  mode = c .mode;
+  ranges = c .ranges;
+  targets = c .targets ++ keep (eqb (addTargetAnswer c) 0) (at ∷ []);
+  access = c .access;
+  processor = c .processor;
+}
