@@ -1,0 +1,164 @@
+-- The directive reader, the questions to the controls and single additions at their open points, as one table.
+use Prim.Native.Nat.{ℕ}
+use mathlib.Core.Path.{_≡_, refl}
+use mathlib.Core.List.{List, [], _∷_, map}
+use mathlib.Core.Bool.{Bool, true, false, _&&_}
+use lib.ListN.{length, replicate}
+use lib.Dec.{eqb}
+use Rattle.reading.specs.declared.RuleEngineMode.{RuleEngineMode}
+use Rattle.reading.specs.declared.BodyAccess.{BodyAccess}
+use Rattle.reading.specs.declared.ModeSetting.{ModeSetting}
+use Rattle.reading.specs.declared.AccessSetting.{AccessSetting}
+use Rattle.reading.specs.declared.ProcessorSetting.{ProcessorSetting}
+use Rattle.reading.specs.declared.RuleIdRange.{RuleIdRange}
+use Rattle.reading.specs.declared.Place.{Place}
+use Rattle.reading.specs.declared.CtlDirective.{CtlDirective}
+use Rattle.reading.specs.declared.OptionU64.{OptionU64}
+use Rattle.reading.specs.Numbers.{modeNumber, accessNumber, directiveNumber}
+use Rattle.reading.specs.Text.{ascii, same, trimStart, before, trimEnd, trim, fold, allDigits, valueFrom, digits, withoutPlus, numberOf, indexOf, onFirst, splitOn, oneId, idsTo, idsFrom, idPart, anyBad, rangesIn}
+use Rattle.reading.specs.Directive.{directiveOf, readerAnswer, ReaderOutcome, readerOutcome}
+use Rattle.reading.specs.Controls.{Controls, isRemoved, beyondLimits, askMode, askRemoved, askTargetCount, askTarget, askAccess, addRangeAnswer, addTargetAnswer, withRange, withTarget}
+use Rattle.reading.specs.Cases.Build.{eqBool}
+
+-- THE READER: the answer, the form of the directive with its number, and both lists
+
+pub record Read : Type 0 where
+  name : List ℕ
+  value : List ℕ
+  starts : List ℕ
+  ends : List ℕ
+  answer : ℕ
+  form : ℕ
+  count : ℕ
+  starts-found : List ℕ
+  ends-found : List ℕ
+
+-- how many ranges, or where the target is cut
+abbrev directiveCount : CtlDirective → ℕ
+directiveCount CtlDirective.Unsupported = 0
+directiveCount (CtlDirective.RuleEngine m) = modeNumber m
+directiveCount (CtlDirective.RuleRemoveById n) = n
+directiveCount (CtlDirective.RuleRemoveTargetById cut) = cut
+directiveCount (CtlDirective.RequestBodyAccess a) = accessNumber a
+directiveCount (CtlDirective.RequestBodyProcessor p) = 0
+
+unfoldable readHolds : Read → ReaderOutcome → Bool
+readHolds r o =
+    eqb (o .answer) (r .answer)
+    && eqb (directiveNumber (o .directive)) (r .form)
+    && eqb (directiveCount (o .directive)) (r .count)
+    && same (o .starts) (r .starts-found)
+    && same (o .ends) (r .ends-found)
+
+-- ruleRemoveById with a value, on lists that hold nines
+abbrev removing : List ℕ → ℕ → ℕ → ℕ → ℕ → List ℕ → List ℕ → Read
+removing value room answer form count starts-found ends-found = record {
+  name = ascii "ruleRemoveById";
+  value = value;
+  starts = replicate room 9;
+  ends = replicate room 9;
+  answer = answer;
+  form = form;
+  count = count;
+  starts-found = starts-found;
+  ends-found = ends-found;
+}
+
+-- any directive, on lists without an entry
+abbrev reading : List ℕ → List ℕ → ℕ → ℕ → ℕ → Read
+reading name value answer form count =
+    record { name = name; value = value; starts = []; ends = []; answer = answer; form = form; count = count; starts-found = []; ends-found = [] }
+
+pub reads : List Read
+reads =
+    -- D5: an unsupported directive leaves the list as found, also where good parts come first
+    removing (ascii "1,5-4") 1 0 0 0 (9 ∷ []) (9 ∷ [])
+    -- 7 leaves it as lent, and is only for supported directives
+    ∷ removing (ascii "1,2") 1 7 0 0 (9 ∷ []) (9 ∷ [])
+    ∷ removing (ascii "1,5-4") 0 0 0 0 [] []
+    ∷ removing (ascii "1,5-7") 2 0 2 2 (1 ∷ 5 ∷ []) (1 ∷ 7 ∷ [])
+    -- ranges go to the start of the lists, and the rest is as found
+    ∷ removing (ascii " 3 - 4 ,") 3 0 2 1 (3 ∷ 9 ∷ 9 ∷ []) (4 ∷ 9 ∷ 9 ∷ [])
+    -- D6: 2 is for one of the texts by itself, and comes first
+    ∷ reading (replicate 65537 255) [] 2 0 0
+    ∷ reading [] (replicate 65537 32) 2 0 0
+    -- D7: a byte of 80 or more, in either text
+    ∷ reading (255 ∷ []) [] 6 0 0
+    ∷ removing (49 ∷ 128 ∷ []) 1 6 0 0 (9 ∷ []) (9 ∷ [])
+    -- D8: a target is cut at its first ";"
+    ∷ reading (ascii "ruleRemoveTargetById") (ascii " x ;y;z") 0 3 3
+    ∷ reading (ascii "ruleEngine") (ascii "Off") 0 1 2
+    ∷ reading (ascii "requestBodyAccess") (ascii " OFF ") 0 4 1
+    ∷ reading (ascii "requestBodyProcessor") (ascii "JSON") 0 5 0
+    ∷ []
+
+pub allRead : List Read → Bool
+allRead [] = true
+allRead (r ∷ rs) = readHolds r (readerOutcome (r .name) (r .value) (r .starts) (r .ends)) && allRead rs
+
+pub read-table : allRead reads ≡ true
+unfolding reads allRead readHolds readerOutcome readerAnswer same trimStart before trimEnd trim fold allDigits valueFrom digits withoutPlus numberOf indexOf onFirst splitOn oneId idsTo idsFrom idPart anyBad rangesIn directiveOf
+read-table = refl
+
+-- THE CONTROLS
+
+abbrev range : ℕ → ℕ → RuleIdRange
+range from to = record { start = from; end = to }
+
+abbrev place : ℕ → Place
+place position = record { phase = 1; position = position }
+
+abbrev holding : ℕ → ℕ → Controls
+holding ranges targets = record {
+  mode = ModeSetting.Set RuleEngineMode.DetectionOnly;
+  ranges = replicate ranges (range 5 7);
+  targets = replicate targets (place 4);
+  access = AccessSetting.Set BodyAccess.Off;
+  processor = ProcessorSetting.Unset;
+}
+
+-- a condition for each line
+pub allTrue : List Bool → Bool
+allTrue [] = true
+allTrue (b ∷ bs) = b && allTrue bs
+
+-- D9: every question meets the whole of 3
+abbrev questions : List Bool
+questions =
+    eqb (askRemoved (holding 0 65) (OptionU64.Some 1) .answer) 3
+    ∷ eqb (askMode RuleEngineMode.On (holding 0 65) .answer) 3
+    ∷ eqb (askTargetCount (holding 257 0) .answer) 3
+    ∷ eqb (askTarget (holding 257 1) 0 .answer) 3
+    ∷ eqb (askAccess (holding 257 0) .answer) 3
+    ∷ eqb (askMode RuleEngineMode.On (holding 256 64) .answer) 0
+    ∷ eqb (modeNumber (askMode RuleEngineMode.On (holding 256 64) .value)) 1
+    ∷ eqBool (askRemoved (holding 1 0) (OptionU64.Some 7) .value) true
+    ∷ eqBool (askRemoved (holding 1 0) (OptionU64.Some 8) .value) false
+    ∷ eqBool (askRemoved (holding 1 0) OptionU64.None .value) false
+    ∷ eqb (askTargetCount (holding 0 64) .value) 64
+    ∷ eqb (accessNumber (askAccess (holding 0 0) .value)) 1
+    ∷ []
+
+-- D10: a range gives 3, 5, 8 in this order, a target 3, 9
+abbrev additions : List Bool
+additions =
+    eqb (addRangeAnswer (holding 0 65) (range 2 1)) 3
+    ∷ eqb (addRangeAnswer (holding 256 0) (range 2 1)) 5
+    ∷ eqb (addRangeAnswer (holding 256 0) (range 5 7)) 8
+    ∷ eqb (addRangeAnswer (holding 255 64) (range 5 5)) 0
+    ∷ eqb (addTargetAnswer (holding 257 64)) 3
+    ∷ eqb (addTargetAnswer (holding 256 64)) 9
+    ∷ eqb (addTargetAnswer (holding 256 63)) 0
+    ∷ eqb (length (withRange (holding 255 0) (range 5 5) .ranges)) 256
+    ∷ eqb (length (withRange (holding 256 0) (range 5 5) .ranges)) 256
+    ∷ eqb (length (withTarget (holding 0 64) (place 1) .targets)) 64
+    ∷ eqb (length (withTarget (holding 0 63) (place 1) .targets)) 64
+    ∷ []
+
+pub question-table : allTrue questions ≡ true
+unfolding allTrue beyondLimits isRemoved
+question-table = refl
+
+pub addition-table : allTrue additions ≡ true
+unfolding allTrue beyondLimits addRangeAnswer addTargetAnswer
+addition-table = refl
