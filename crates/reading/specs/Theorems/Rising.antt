@@ -119,3 +119,36 @@ rises (suc k) q st = turn-rises q st (walk k q (visitAt q st .after)) (isVisited
 pub indexes-rise : (q : Call) → Rises (ruleCount q) 0 (journalOf (walkOf q))
 unfolding walkOf
 indexes-rise q = kept-rises (ruleCount q) 0 (not (nothingToDo q)) (walk (ruleCount q) q (start q)) (rises (ruleCount q) q (start q))
+
+-- THE WALK ENDS BY ITSELF: it is cut nowhere by the count of visits that it is given
+
+turn-enough : (q : Call) (st : State) (rest more : List Visit) (b : Bool) → isVisited q st ≡ b
+    → (st .next < visitAt q st .after .next → more ≡ rest)
+    → keep b (visitAt q st ∷ keep (not (isLast (visitAt q st .ending))) more) ≡ keep b (visitAt q st ∷ keep (not (isLast (visitAt q st .ending))) rest)
+unfolding visitAt
+turn-enough q st rest more false e h = refl
+turn-enough q st rest more true e h =
+    let verdict : Verdict = verdictAt q (st .controls) (st .next) in
+    let link : Bool = isLink q (st .next) in
+    let v : Visit = visitBy q st verdict link in
+    ap (λ (l : List Visit). v ∷ keep (not (isLast (v .ending))) l) (h (goes-ahead q st verdict link (visited-within q st e)))
+
+no-visit : (q : Call) (st : State) (l : List Visit) (b : Bool) → isVisited q st ≡ b → ruleCount q ≤ st .next → keep b l ≡ []
+no-visit q st l false e h = refl
+no-visit q st l true e h = absurd (omega (arith, visited-within q st e))
+
+one-enough : (k : ℕ) (q : Call) (st : State) → ruleCount q ≤ k + st .next → walk (suc k) q st ≡ walk k q st
+unfolding walk
+one-enough zero q st h =
+    no-visit q st (visitAt q st ∷ keep (not (isLast (visitAt q st .ending))) (walk zero q (visitAt q st .after))) (isVisited q st) refl (omega arith)
+one-enough (suc k) q st h =
+    turn-enough q st (walk k q (visitAt q st .after)) (walk (suc k) q (visitAt q st .after)) (isVisited q st) refl
+    (λ g. one-enough k q (visitAt q st .after) (omega arith))
+
+pub walk-complete : (q : Call) (more : ℕ) → walk (ruleCount q + more) q (start q) ≡ walk (ruleCount q) q (start q)
+walk-complete q zero =
+    let z : ruleCount q + 0 ≡ ruleCount q = omega arith in
+    ap (λ (k : ℕ). walk k q (start q)) z
+walk-complete q (suc more) =
+    let z : ruleCount q + suc more ≡ suc (ruleCount q + more) = omega arith in
+    ap (λ (k : ℕ). walk k q (start q)) z ∙ one-enough (ruleCount q + more) q (start q) (omega arith) ∙ walk-complete q more
