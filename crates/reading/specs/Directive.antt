@@ -1,7 +1,7 @@
 -- The ctl directive: its supported forms and values (`CtlDirective::parse`), and what the directive reader answers.
 use Prim.Native.Nat.{ℕ, min}
-use mathlib.Core.Bool.{Bool, true, false, cond, _&&_, _||_}
-use mathlib.Core.List.{List, [], _∷_, map}
+use mathlib.Core.Bool.{Bool, true, false, cond, _||_}
+use mathlib.Core.List.{List, [], map}
 use lib.ListN.{length}
 use lib.Dec.{ltb, leb, eqb}
 use Rattle.reading.specs.declared.RuleEngineMode.{RuleEngineMode}

@@ -3,8 +3,8 @@
 -- in the files above: both ends of a range are removed; the last disruptive action wins; flow, disruptive action and
 -- metadata are the chain starter's and wait for the whole chain; a chain matches where all its rules do.
 use Prim.Native.Nat.{ℕ, zero, suc, _+_}
-use mathlib.Core.Bool.{Bool, true, false, cond, _&&_, _||_}
-use mathlib.Core.List.{List, [], _∷_}
+use mathlib.Core.Bool.{Bool, cond, _&&_, _||_}
+use mathlib.Core.List.{List}
 use lib.Dec.{leb, eqb}
 use Rattle.reading.specs.declared.RuleEngineMode.{RuleEngineMode}
 use Rattle.reading.specs.declared.OptionU64.{OptionU64}

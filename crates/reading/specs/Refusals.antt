@@ -1,7 +1,6 @@
 -- Why a call is turned away: 01's numbers 1 to 9 in their order, over everything lent. Sums are sums of natural numbers, so none wraps.
 use Prim.Native.Nat.{ℕ, _+_}
-use mathlib.Core.Bool.{Bool, true, false, not, cond, _&&_, _||_}
-use mathlib.Core.List.{List}
+use mathlib.Core.Bool.{Bool, not, cond, _&&_, _||_}
 use lib.ListN.{length}
 use lib.Dec.{ltb, leb, eqb}
 use Rattle.reading.specs.declared.Part.{Part}

@@ -1,6 +1,6 @@
 -- Demand 3: what a journal's closed units give, from its entries and the call alone. The walk is not mentioned.
 use Prim.Native.Nat.{ℕ}
-use mathlib.Core.Bool.{Bool, true, false, not, cond, _&&_}
+use mathlib.Core.Bool.{Bool, not, cond, _&&_}
 use mathlib.Core.List.{List, [], _∷_, _++_}
 use lib.Dec.{eqb}
 use Rattle.reading.specs.declared.JournalEntry.{JournalEntry}

@@ -4,13 +4,11 @@ use Prim.Native.Nat.{ℕ}
 use mathlib.Core.Bool.{Bool, true, false, cond}
 use mathlib.Core.List.{List, [], _∷_, _++_}
 use lib.Dec.{eqb}
-use Rattle.reading.specs.declared.Place.{Place}
 use Rattle.reading.specs.declared.OptionU64.{OptionU64}
 use Rattle.reading.specs.declared.OptionPlace.{OptionPlace}
 use Rattle.reading.specs.declared.DataEntry.{DataEntry}
 use Rattle.reading.specs.declared.DisruptiveOutcome.{DisruptiveOutcome}
 use Rattle.reading.specs.declared.FlowOutcome.{FlowOutcome}
-use Rattle.reading.specs.declared.RuleMetadata.{RuleMetadata}
 use Rattle.reading.specs.declared.Intervention.{Intervention}
 use Rattle.reading.specs.Lists.{gather, keep}
 use Rattle.reading.specs.Numbers.{listOf, presentNumber, numberOrZero}

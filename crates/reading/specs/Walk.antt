@@ -2,8 +2,8 @@
 use Prim.Native.Nat.{ℕ, zero, suc, _+_}
 use mathlib.Core.Bool.{Bool, true, false, not, cond, _&&_, _||_}
 use mathlib.Core.List.{List, [], _∷_, _++_}
-use lib.ListN.{length, drop, getD}
-use lib.Dec.{ltb, leb, eqb}
+use lib.ListN.{drop, getD}
+use lib.Dec.{ltb, eqb}
 use Rattle.reading.specs.declared.Verdict.{Verdict}
 use Rattle.reading.specs.declared.Rule.{Rule}
 use Rattle.reading.specs.declared.Action.{Action}
@@ -20,7 +20,7 @@ use Rattle.reading.specs.Numbers.{verdictNumber}
 use Rattle.reading.specs.Controls.{Controls, isRemoved, isOn, isOff}
 use Rattle.reading.specs.Markers.{markerPosition}
 use Rattle.reading.specs.Reading.{jumps}
-use Rattle.reading.specs.Call.{Call, ruleCount, ruleAt, isLink, idAt, outcomeAt, modeUnder}
+use Rattle.reading.specs.Call.{Call, ruleCount, isLink, idAt, outcomeAt, modeUnder}
 use Rattle.reading.specs.Units.{unitIds, unitData, unitControls, unitFlow, unitDisruptive, unitIntervention, isAllow, isStopping}
 
 -- 01: "it keeps the next index, the open chain's members and the controls so far". No members: no chain is open.

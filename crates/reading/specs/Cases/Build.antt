@@ -1,7 +1,7 @@
 -- Cases written as 01 writes them, and the calls that they stand for.
-use Prim.Native.Nat.{ℕ, suc, _+_}
+use Prim.Native.Nat.{ℕ, _+_}
 use Prim.Native.String.{String}
-use mathlib.Core.Bool.{Bool, true, false, not, cond, _&&_, _||_}
+use mathlib.Core.Bool.{Bool, true, false, not, _&&_, _||_}
 use mathlib.Core.List.{List, [], _∷_, _++_, map}
 use lib.ListN.{length, take, drop as behind, replicate}
 use lib.Dec.{eqb}
@@ -16,13 +16,13 @@ use Rattle.reading.specs.declared.OptionU64.{OptionU64}
 use Rattle.reading.specs.declared.OptionPlace.{OptionPlace}
 use Rattle.reading.specs.declared.Intervention.{Intervention}
 use Rattle.reading.specs.declared.OptionIntervention.{OptionIntervention}
-use Rattle.reading.specs.Lists.{any, gather}
+use Rattle.reading.specs.Lists.{gather}
 use Rattle.reading.specs.Text.{ascii, same}
 use Rattle.reading.specs.Numbers.{modeNumber, presentNumber, numberOrZero}
 use Rattle.reading.specs.Directive.{directiveOf, isSupported}
 use Rattle.reading.specs.Controls.{Controls, noControls, isRemoved}
 use Rattle.reading.specs.Reading.{Reading, rust}
-use Rattle.reading.specs.Call.{Call, Transaction}
+use Rattle.reading.specs.Call.{Call}
 use Rattle.reading.specs.Units.{interventionIds}
 use Rattle.reading.specs.Replay.{replayedIds, replayedData, replayedControls, replayedAllow, replayedIntervention}
 use Rattle.reading.specs.Outcome.{Outcome, outcomeOf}

@@ -1,5 +1,4 @@
 -- C1 to C16 of 01 as one table, and one proof that the definitions give what every row states.
-use Prim.Native.Nat.{ℕ}
 use Prim.Native.String.{String}
 use mathlib.Core.Path.{_≡_, refl}
 use mathlib.Core.List.{List, [], _∷_}
@@ -10,13 +9,13 @@ use Rattle.reading.specs.Directive.{directiveOf}
 use Rattle.reading.specs.Controls.{isRemoved, beyondLimits}
 use Rattle.reading.specs.Actions.{actionsOf, lastOf, lastDisruptive, lastFlow, metadataOf, directiveIn}
 use Rattle.reading.specs.Markers.{markerPosition}
-use Rattle.reading.specs.Call.{Call, ruleAt, isLink, idAt, outcomeAt, actionsAt}
+use Rattle.reading.specs.Call.{ruleAt, isLink, idAt, outcomeAt, actionsAt}
 use Rattle.reading.specs.Refusals.{refused1, refused2, refused3, refused4, refused5, refused6, refused7, refused8, refused9, rangesAdded, targetsAdded, ruleRanges, ruleTargets, refusalOf}
 use Rattle.reading.specs.Units.{ruleControls, unitFlow, unitDisruptive, unitIntervention}
 use Rattle.reading.specs.Walk.{verdictAt, afterChain, visitAt, walk, walkOf}
 use Rattle.reading.specs.Replay.{unitsOf, lastClosed}
 use Rattle.reading.specs.Outcome.{visitsOf, outcomeOf}
-use Rattle.reading.specs.Cases.Build.{Act, deny, pass, allow, skip, skipAfter, ctl, status, Row, none, stopped, Told, row, removal, rule, link, noId, missed, marker, call, callIn, matched, miss, removed, entry, sameIds, sameVisits, sameData, sameStop, holds, allHold}
+use Rattle.reading.specs.Cases.Build.{deny, pass, allow, skip, skipAfter, ctl, status, Row, none, stopped, Told, row, removal, rule, link, noId, missed, marker, call, callIn, matched, miss, removed, entry, sameIds, sameVisits, sameData, sameStop, holds, allHold}
 
 abbrev told : String → Bool → Told
 told value supported = record { directive = "ruleRemoveById"; value = value; supported = supported }

@@ -1,8 +1,8 @@
 -- The demands as theorems about the outcome that 01 defines, for any reading: demand 3 whole; a refused call and a call
 -- with nothing to do change nothing; the answers.
-use Prim.Native.Nat.{ℕ, zero, suc, _+_, _≤_, _<_}
+use Prim.Native.Nat.{ℕ, suc, _+_, _≤_}
 use mathlib.Core.Path.{_≡_, refl, sym, ap, _∙_}
-use mathlib.Core.List.{List, [], _∷_, _++_, append-nil}
+use mathlib.Core.List.{List, [], _∷_, _++_}
 use mathlib.Core.Logic.{_⊎_, inl, inr}
 use mathlib.Core.Bool.{Bool, true, false, not, cond, _&&_, _||_}
 use native.Mathlib.Omega.{arith}
@@ -12,20 +12,19 @@ use borrow.Author.Tests.{eq-eqb, ne-eqb, eqb-true, eqb-false}
 use Rattle.reading.specs.declared.JournalEntry.{JournalEntry}
 use Rattle.reading.specs.declared.Intervention.{Intervention}
 use Rattle.reading.specs.declared.OptionIntervention.{OptionIntervention}
-use Rattle.reading.specs.Lists.{keep, over, any, gather}
-use Rattle.reading.specs.Reading.{Reading}
-use Rattle.reading.specs.Call.{Call, Transaction, ruleCount, isLink, modeUnder}
+use Rattle.reading.specs.Lists.{keep, over}
+use Rattle.reading.specs.Call.{Call, ruleCount, isLink, modeUnder}
 use Rattle.reading.specs.Controls.{Controls, isOn}
-use Rattle.reading.specs.Units.{unitIds, unitData, unitDisruptive, unitIntervention, isStopping}
-use Rattle.reading.specs.Walk.{Visit, walk, start, walkOf, isStopped, nothingToDo, journalOf, closedIn, idsOf, dataOf, controlsAfter, allowedBy, interventionBy, answerBy, errorIndexBy}
-use Rattle.reading.specs.Replay.{heldAfter, unitsOf, lastClosedFrom, lastClosed, unitsControls, unitAllows, stopOf, replayedIds, replayedData, replayedControls, replayedAllow, replayedIntervention}
-use Rattle.reading.specs.Refusals.{refusalOf, isAccepted, refused1, refused2, refused3, refused4, refused5, refused6, refused7, refused8, refused9}
+use Rattle.reading.specs.Units.{unitDisruptive, unitIntervention, isStopping}
+use Rattle.reading.specs.Walk.{Visit, walk, start, walkOf, isStopped, nothingToDo, journalOf, idsOf, dataOf, allowedBy, interventionBy, answerBy}
+use Rattle.reading.specs.Replay.{heldAfter, unitsOf, lastClosedFrom, lastClosed, stopOf, replayedControls, replayedIntervention}
+use Rattle.reading.specs.Refusals.{refusalOf, refused1, refused2, refused3, refused4, refused5, refused6, refused7, refused8, refused9}
 use Rattle.reading.specs.Outcome.{Outcome, visitsOf, outcomeOf, atFreeEnd, ifNone, transactionAfter}
-use Rattle.reading.specs.Demand3.{Demand3, Accounted, StoppedBy, Rises, foundJournal}
+use Rattle.reading.specs.Demand3.{Demand3, StoppedBy, foundJournal}
 use Rattle.reading.specs.Theorems.Replayed.{Replayed, walk-replayed}
 use Rattle.reading.specs.Theorems.Rising.{indexes-rise}
 use Rattle.reading.specs.Theorems.Limits.{accepted-visits}
-use Rattle.reading.specs.Theorems.Answers.{ErrorFound, ten-only-after-error, zero-or-ten}
+use Rattle.reading.specs.Theorems.Answers.{ErrorFound, ten-only-after-error}
 
 length-journal : (l : List Visit) → length (journalOf l) ≡ length l
 length-journal [] = refl

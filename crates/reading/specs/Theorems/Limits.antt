@@ -1,18 +1,17 @@
 -- An accepted call never passes 256 ranges, 64 targets or the free entries of a lent list, for any reading: the members of
 -- closed units are different rules, so that what they give is within what refusals 7, 8 and 9 counted.
 use Prim.Native.Nat.{ℕ, zero, suc, _+_, _-_, _≤_, _<_}
-use mathlib.Core.Path.{_≡_, refl, sym, ap, _∙_}
+use mathlib.Core.Path.{_≡_, refl, ap, _∙_}
 use mathlib.Core.List.{List, [], _∷_, _++_}
-use mathlib.Core.Bool.{Bool, true, false, not, cond, _&&_, _||_}
+use mathlib.Core.Bool.{Bool, true, false, not, cond, _||_}
 use native.Mathlib.Omega.{arith}
 use lib.ListN.{length, getD, length-append}
 use lib.Dec.{ltb, eqb}
-use borrow.Author.Tests.{ltb-true, ltb-false}
+use borrow.Author.Tests.{ltb-false}
 use Rattle.reading.specs.declared.Verdict.{Verdict}
 use Rattle.reading.specs.declared.Rule.{Rule}
 use Rattle.reading.specs.declared.Place.{Place}
 use Rattle.reading.specs.declared.OptionU64.{OptionU64}
-use Rattle.reading.specs.declared.RuleIdRange.{RuleIdRange}
 use Rattle.reading.specs.Lists.{keep, total, gather}
 use Rattle.reading.specs.Numbers.{listOf}
 use Rattle.reading.specs.Directive.{Directive, ruleEngine, ruleRemoveById, ruleRemoveTargetById, requestBodyAccess, requestBodyProcessor, unsupported, rangesOf, targetCount}

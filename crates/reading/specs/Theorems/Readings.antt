@@ -1,14 +1,13 @@
 -- Where the two readings, and the manual and the Rust, agree, so that docs/DIFFERENCES.md lists all that is left; and what
 -- does not depend on the reading.
 use Prim.Native.Nat.{ℕ, zero, suc, _+_, _≤_, _<_}
-use mathlib.Core.Path.{_≡_, refl, sym, ap, _∙_}
+use mathlib.Core.Path.{_≡_, refl, sym, _∙_}
 use mathlib.Core.List.{List, [], _∷_, _++_}
 use mathlib.Core.Bool.{Bool, true, false, cond, _&&_, _||_}
 use native.Mathlib.Omega.{arith}
-use lib.ListN.{length, getD, drop}
 use lib.Seq.{drop-cons}
 use lib.Dec.{leb, ltb, eqb}
-use borrow.Author.Tests.{lt-ltb, le-ltb, le-leb, lt-leb, eq-eqb, ne-eqb, ltb-true, ltb-false, eqb-true, eqb-false}
+use borrow.Author.Tests.{le-leb, lt-leb, ne-eqb, ltb-true, ltb-false, eqb-true, eqb-false}
 use Rattle.reading.specs.declared.RuleEngineMode.{RuleEngineMode}
 use Rattle.reading.specs.declared.OptionU64.{OptionU64}
 use Rattle.reading.specs.declared.Verdict.{Verdict}
@@ -18,7 +17,7 @@ use Rattle.reading.specs.Controls.{Controls, isOn}
 use Rattle.reading.specs.Actions.{Placed, lastStatus}
 use Rattle.reading.specs.Reading.{Reading, rust, manual, jumps, rustStatus, manualStatus}
 use Rattle.reading.specs.Call.{Call, ruleCount, ruleAt, isLink, noRule, modeUnder}
-use Rattle.reading.specs.Walk.{State, goesOn, allows, stops, isLast, chainRest, afterChain, afterFlow, endingBy, visitBy}
+use Rattle.reading.specs.Walk.{State, goesOn, allows, stops, isLast, afterChain, afterFlow, endingBy, visitBy}
 use Rattle.reading.specs.Units.{isAllow, isStopping, stopStatus, unitIntervention}
 use Rattle.reading.specs.Refusals.{refusalOf, refused1, refused2, refused3, refused4, refused5, refused6, refused7, refused8, refused9, ruleRanges, ruleTargets, rangesAdded, targetsAdded}
 use Rattle.reading.specs.Manual.{manualJumps, manualSkip, rustSkip, manualActs, rustActs, rustRedirectStatus, manualMatched, rustLink, rustClosed}

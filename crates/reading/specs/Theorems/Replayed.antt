@@ -1,20 +1,19 @@
 -- Demand 3 as a theorem, without the code and for any reading, any lengths and any call: what the walk gives is what its
 -- journal's closed units give.
 use Prim.Native.Nat.{ℕ, zero, suc}
-use mathlib.Core.Path.{_≡_, refl, sym, ap, _∙_}
-use mathlib.Core.List.{List, [], _∷_, _++_, append-assoc, append-nil}
+use mathlib.Core.Path.{_≡_, refl, _∙_}
+use mathlib.Core.List.{List, [], _∷_, _++_}
 use mathlib.Core.Bool.{Bool, true, false, not, cond, _&&_, _||_}
 use native.Mathlib.Omega.{arith}
 use Rattle.reading.specs.declared.Verdict.{Verdict}
-use Rattle.reading.specs.declared.JournalEntry.{JournalEntry}
 use Rattle.reading.specs.declared.DisruptiveOutcome.{DisruptiveOutcome}
 use Rattle.reading.specs.declared.OptionIntervention.{OptionIntervention}
-use Rattle.reading.specs.Lists.{keep, any, gather}
+use Rattle.reading.specs.Lists.{keep, any}
 use Rattle.reading.specs.Controls.{Controls, isOn}
 use Rattle.reading.specs.Call.{Call, isLink, modeUnder, ruleCount}
-use Rattle.reading.specs.Units.{unitIds, unitData, unitControls, unitDisruptive, unitIntervention, isAllow, isStopping}
-use Rattle.reading.specs.Walk.{State, Visit, Ending, goesOn, allows, errs, stops, isLast, givesAllow, interventionOr, endingBy, visitBy, visitAt, verdictAt, isVisited, walk, walkOf, start, nothingToDo, entryOf, journalOf, closedIn, controlsAfter, allowedBy, interventionBy}
-use Rattle.reading.specs.Replay.{heldAfter, closedBy, unitsFrom, lastClosedFrom, unitsControls, unitAllows, unitStop, stopOf}
+use Rattle.reading.specs.Units.{unitControls, unitDisruptive, unitIntervention, isAllow, isStopping}
+use Rattle.reading.specs.Walk.{State, Visit, Ending, goesOn, allows, errs, stops, isLast, givesAllow, interventionOr, visitBy, visitAt, verdictAt, isVisited, walk, walkOf, start, nothingToDo, entryOf, journalOf, closedIn, controlsAfter, allowedBy, interventionBy}
+use Rattle.reading.specs.Replay.{heldAfter, closedBy, unitsFrom, lastClosedFrom, unitsControls, unitAllows, stopOf}
 
 -- ONE VISIT, by what the rule is found to be and by whether it is a link
 
