@@ -28,15 +28,22 @@ pub record Controls : Type 0 where
 abbrev pub noControls : Controls
 noControls = record { mode = ModeSetting.Unset; ranges = []; targets = []; access = AccessSetting.Unset; processor = ProcessorSetting.Unset }
 
--- 01: "the last mode, body access or processor wins. Ranges and targets are added at the end.", and an unsupported
+-- 01: "Ranges and targets are added at the end."
+abbrev pub addRanges : List RuleIdRange → List RuleIdRange → List RuleIdRange
+addRanges held new = held ++ new
+
+abbrev pub addTarget : List Place → Place → List Place
+addTarget held at = held ++ (at ∷ [])
+
+-- 01: "the last mode, body access or processor wins.", and an unsupported
 -- directive "changes nothing". The place is that of the ctl action.
 abbrev pub applied : Controls → Place → Directive → Controls
 applied c at (ruleEngine m) =
     record { mode = ModeSetting.Set m; ranges = c .ranges; targets = c .targets; access = c .access; processor = c .processor }
 applied c at (ruleRemoveById rs) =
-    record { mode = c .mode; ranges = c .ranges ++ rs; targets = c .targets; access = c .access; processor = c .processor }
+    record { mode = c .mode; ranges = addRanges (c .ranges) rs; targets = c .targets; access = c .access; processor = c .processor }
 applied c at (ruleRemoveTargetById id target) =
-    record { mode = c .mode; ranges = c .ranges; targets = c .targets ++ (at ∷ []); access = c .access; processor = c .processor }
+    record { mode = c .mode; ranges = c .ranges; targets = addTarget (c .targets) at; access = c .access; processor = c .processor }
 applied c at (requestBodyAccess a) =
     record { mode = c .mode; ranges = c .ranges; targets = c .targets; access = AccessSetting.Set a; processor = c .processor }
 applied c at (requestBodyProcessor p) =
@@ -138,7 +145,7 @@ addTargetAnswer c = cond (beyondLimits c) 3 (cond (leb mostTargets (length (c .t
 abbrev pub withRange : Controls → RuleIdRange → Controls
 withRange c r = record {
   mode = c .mode;
-  ranges = c .ranges ++ keep (eqb (addRangeAnswer c r) 0) (r ∷ []);
+  ranges = addRanges (c .ranges) (keep (eqb (addRangeAnswer c r) 0) (r ∷ []));
   targets = c .targets;
   access = c .access;
   processor = c .processor;
@@ -148,7 +155,7 @@ abbrev pub withTarget : Controls → Place → Controls
 withTarget c at = record {
   mode = c .mode;
   ranges = c .ranges;
-  targets = c .targets ++ keep (eqb (addTargetAnswer c) 0) (at ∷ []);
+  targets = cond (eqb (addTargetAnswer c) 0) (addTarget (c .targets) at) (c .targets);
   access = c .access;
   processor = c .processor;
 }
