@@ -6,6 +6,7 @@ use lib.ListN.{length, getD}
 use lib.Dec.{ltb, leb, eqb}
 use Rattle.reading.specs.declared.RuleEngineMode.{RuleEngineMode}
 use Rattle.reading.specs.declared.BodyAccess.{BodyAccess}
+use Rattle.reading.specs.declared.BodyProcessor.{BodyProcessor}
 use Rattle.reading.specs.declared.ModeSetting.{ModeSetting}
 use Rattle.reading.specs.declared.AccessSetting.{AccessSetting}
 use Rattle.reading.specs.declared.ProcessorSetting.{ProcessorSetting}
@@ -28,6 +29,16 @@ pub record Controls : Type 0 where
 abbrev pub noControls : Controls
 noControls = record { mode = ModeSetting.Unset; ranges = []; targets = []; access = AccessSetting.Unset; processor = ProcessorSetting.Unset }
 
+-- a mode, body access or processor set singly, which no limit refuses (docs/DECISIONS.md, D9)
+abbrev pub withMode : Controls → RuleEngineMode → Controls
+withMode c m = record { mode = ModeSetting.Set m; ranges = c .ranges; targets = c .targets; access = c .access; processor = c .processor }
+
+abbrev pub withAccess : Controls → BodyAccess → Controls
+withAccess c a = record { mode = c .mode; ranges = c .ranges; targets = c .targets; access = AccessSetting.Set a; processor = c .processor }
+
+abbrev pub withProcessor : Controls → BodyProcessor → Controls
+withProcessor c p = record { mode = c .mode; ranges = c .ranges; targets = c .targets; access = c .access; processor = ProcessorSetting.Set p }
+
 -- 01: "Ranges and targets are added at the end."
 abbrev pub addRanges : List RuleIdRange → List RuleIdRange → List RuleIdRange
 addRanges held new = held ++ new
@@ -38,16 +49,13 @@ addTarget held at = held ++ (at ∷ [])
 -- 01: "the last mode, body access or processor wins.", and an unsupported
 -- directive "changes nothing". The place is that of the ctl action.
 abbrev pub applied : Controls → Place → Directive → Controls
-applied c at (ruleEngine m) =
-    record { mode = ModeSetting.Set m; ranges = c .ranges; targets = c .targets; access = c .access; processor = c .processor }
+applied c at (ruleEngine m) = withMode c m
 applied c at (ruleRemoveById rs) =
     record { mode = c .mode; ranges = addRanges (c .ranges) rs; targets = c .targets; access = c .access; processor = c .processor }
 applied c at (ruleRemoveTargetById id target) =
     record { mode = c .mode; ranges = c .ranges; targets = addTarget (c .targets) at; access = c .access; processor = c .processor }
-applied c at (requestBodyAccess a) =
-    record { mode = c .mode; ranges = c .ranges; targets = c .targets; access = AccessSetting.Set a; processor = c .processor }
-applied c at (requestBodyProcessor p) =
-    record { mode = c .mode; ranges = c .ranges; targets = c .targets; access = c .access; processor = ProcessorSetting.Set p }
+applied c at (requestBodyAccess a) = withAccess c a
+applied c at (requestBodyProcessor p) = withProcessor c p
 applied c at unsupported = c
 
 -- 01: "the one set last .., else the rule set's"
@@ -141,7 +149,7 @@ addRangeAnswer c r = cond (beyondLimits c) 3 (cond (ltb (r .end) (r .start)) 5 (
 unfoldable pub addTargetAnswer : Controls → ℕ
 addTargetAnswer c = cond (beyondLimits c) 3 (cond (leb mostTargets (length (c .targets))) 9 0)
 
--- the controls after it: as before where the answer is not 0
+-- the controls after an addition: as before where the answer is not 0
 abbrev pub withRange : Controls → RuleIdRange → Controls
 withRange c r = record {
   mode = c .mode;

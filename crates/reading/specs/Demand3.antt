@@ -25,6 +25,7 @@ foundJournal o = take (o .visits) (o .journal)
 
 pub record Accounted (q : Call) (o : Outcome) : Type 0 where
   -- "its journal holds exactly the visits of demand 2's walk, each as rule index and verdict, in order"
+  pub visits : o .visits ≡ length (walkOf q)
   pub journal : foundJournal o ≡ journalOf (walkOf q)
   -- "the indexes strictly rising"
   pub rising : Rises (ruleCount q) 0 (foundJournal o)

@@ -49,6 +49,22 @@ flowKind FlowOutcome.Chain = 7
 flowKind (FlowOutcome.Skip n) = 8
 flowKind (FlowOutcome.SkipAfter at) = 9
 
+-- the values that a case holds: the position of a redirect or a skipAfter, the count of a skip; 0 for a case without one
+abbrev pub disruptiveValue : DisruptiveOutcome → ℕ
+disruptiveValue DisruptiveOutcome.Nothing = 0
+disruptiveValue DisruptiveOutcome.Deny = 0
+disruptiveValue DisruptiveOutcome.Block = 0
+disruptiveValue DisruptiveOutcome.Pass = 0
+disruptiveValue DisruptiveOutcome.Allow = 0
+disruptiveValue (DisruptiveOutcome.Redirect at) = at
+disruptiveValue DisruptiveOutcome.Drop = 0
+
+abbrev pub flowValue : FlowOutcome → ℕ
+flowValue FlowOutcome.Continue = 0
+flowValue FlowOutcome.Chain = 0
+flowValue (FlowOutcome.Skip n) = n
+flowValue (FlowOutcome.SkipAfter at) = at
+
 -- The papers give no number to the cases below; these are ours (docs/DECISIONS.md, D12).
 abbrev pub accessNumber : BodyAccess → ℕ
 accessNumber BodyAccess.On = 0
@@ -81,6 +97,15 @@ directiveNumber (CtlDirective.RuleRemoveById n) = 2
 directiveNumber (CtlDirective.RuleRemoveTargetById cut) = 3
 directiveNumber (CtlDirective.RequestBodyAccess a) = 4
 directiveNumber (CtlDirective.RequestBodyProcessor p) = 5
+
+-- and its value: a mode, access or processor by its number, how many ranges, or where a target is cut
+abbrev pub directiveValue : CtlDirective → ℕ
+directiveValue CtlDirective.Unsupported = 0
+directiveValue (CtlDirective.RuleEngine m) = modeNumber m
+directiveValue (CtlDirective.RuleRemoveById n) = n
+directiveValue (CtlDirective.RuleRemoveTargetById cut) = cut
+directiveValue (CtlDirective.RequestBodyAccess a) = accessNumber a
+directiveValue (CtlDirective.RequestBodyProcessor p) = processorNumber p
 
 -- a number or none: whether there is one, and the number
 abbrev pub presentNumber : OptionU64 → ℕ

@@ -12,9 +12,8 @@ use Rattle.reading.specs.declared.AccessSetting.{AccessSetting}
 use Rattle.reading.specs.declared.ProcessorSetting.{ProcessorSetting}
 use Rattle.reading.specs.declared.RuleIdRange.{RuleIdRange}
 use Rattle.reading.specs.declared.Place.{Place}
-use Rattle.reading.specs.declared.CtlDirective.{CtlDirective}
 use Rattle.reading.specs.declared.OptionU64.{OptionU64}
-use Rattle.reading.specs.Numbers.{modeNumber, accessNumber, directiveNumber}
+use Rattle.reading.specs.Numbers.{modeNumber, accessNumber, directiveNumber, directiveValue}
 use Rattle.reading.specs.Text.{ascii, same, trimStart, before, trimEnd, trim, fold, allDigits, valueFrom, digits, withoutPlus, numberOf, indexOf, onFirst, splitOn, oneId, idsTo, idsFrom, idPart, anyBad, rangesIn}
 use Rattle.reading.specs.Directive.{directiveOf, readerAnswer, ReaderOutcome, readerOutcome}
 use Rattle.reading.specs.Controls.{Controls, isRemoved, beyondLimits, askMode, askRemoved, askTargetCount, askTarget, askAccess, addRangeAnswer, addTargetAnswer, withRange, withTarget}
@@ -29,45 +28,36 @@ pub record Read : Type 0 where
   ends : List ℕ
   answer : ℕ
   form : ℕ
-  count : ℕ
+  value-of : ℕ
   starts-found : List ℕ
   ends-found : List ℕ
-
--- how many ranges, or where the target is cut
-abbrev directiveCount : CtlDirective → ℕ
-directiveCount CtlDirective.Unsupported = 0
-directiveCount (CtlDirective.RuleEngine m) = modeNumber m
-directiveCount (CtlDirective.RuleRemoveById n) = n
-directiveCount (CtlDirective.RuleRemoveTargetById cut) = cut
-directiveCount (CtlDirective.RequestBodyAccess a) = accessNumber a
-directiveCount (CtlDirective.RequestBodyProcessor p) = 0
 
 unfoldable readHolds : Read → ReaderOutcome → Bool
 readHolds r o =
     eqb (o .answer) (r .answer)
     && eqb (directiveNumber (o .directive)) (r .form)
-    && eqb (directiveCount (o .directive)) (r .count)
+    && eqb (directiveValue (o .directive)) (r .value-of)
     && same (o .starts) (r .starts-found)
     && same (o .ends) (r .ends-found)
 
 -- ruleRemoveById with a value, on lists that hold nines
 abbrev removing : List ℕ → ℕ → ℕ → ℕ → ℕ → List ℕ → List ℕ → Read
-removing value room answer form count starts-found ends-found = record {
+removing value room answer form value-of starts-found ends-found = record {
   name = ascii "ruleRemoveById";
   value = value;
   starts = replicate room 9;
   ends = replicate room 9;
   answer = answer;
   form = form;
-  count = count;
+  value-of = value-of;
   starts-found = starts-found;
   ends-found = ends-found;
 }
 
 -- any directive, on lists without an entry
 abbrev reading : List ℕ → List ℕ → ℕ → ℕ → ℕ → Read
-reading name value answer form count =
-    record { name = name; value = value; starts = []; ends = []; answer = answer; form = form; count = count; starts-found = []; ends-found = [] }
+reading name value answer form value-of =
+    record { name = name; value = value; starts = []; ends = []; answer = answer; form = form; value-of = value-of; starts-found = []; ends-found = [] }
 
 pub reads : List Read
 reads =
@@ -89,7 +79,7 @@ reads =
     ∷ reading (ascii "ruleRemoveTargetById") (ascii " x ;y;z") 0 3 3
     ∷ reading (ascii "ruleEngine") (ascii "Off") 0 1 2
     ∷ reading (ascii "requestBodyAccess") (ascii " OFF ") 0 4 1
-    ∷ reading (ascii "requestBodyProcessor") (ascii "JSON") 0 5 0
+    ∷ reading (ascii "requestBodyProcessor") (ascii "JSON") 0 5 2
     ∷ []
 
 pub allRead : List Read → Bool

@@ -16,19 +16,15 @@ use Rattle.reading.specs.Lists.{keep, over}
 use Rattle.reading.specs.Call.{Call, ruleCount, isLink, modeUnder}
 use Rattle.reading.specs.Controls.{Controls, isOn}
 use Rattle.reading.specs.Units.{unitDisruptive, unitIntervention, isStopping}
-use Rattle.reading.specs.Walk.{Visit, walk, start, walkOf, isStopped, nothingToDo, journalOf, idsOf, dataOf, allowedBy, interventionBy, answerBy}
+use Rattle.reading.specs.Walk.{Visit, walk, start, walkOf, isStopped, nothingToDo, journalOf, idsOf, dataOf, allowedBy, interventionBy, answerBy, errorIndexBy, isError}
 use Rattle.reading.specs.Replay.{heldAfter, unitsOf, lastClosedFrom, lastClosed, stopOf, replayedControls, replayedIntervention}
 use Rattle.reading.specs.Refusals.{refusalOf, refused1, refused2, refused3, refused4, refused5, refused6, refused7, refused8, refused9}
 use Rattle.reading.specs.Outcome.{Outcome, visitsOf, outcomeOf, atFreeEnd, ifNone, transactionAfter}
 use Rattle.reading.specs.Demand3.{Demand3, StoppedBy, foundJournal}
 use Rattle.reading.specs.Theorems.Replayed.{Replayed, walk-replayed}
 use Rattle.reading.specs.Theorems.Rising.{indexes-rise}
-use Rattle.reading.specs.Theorems.Limits.{accepted-visits}
-use Rattle.reading.specs.Theorems.Answers.{ErrorFound, ten-only-after-error}
-
-length-journal : (l : List Visit) → length (journalOf l) ≡ length l
-length-journal [] = refl
-length-journal (v ∷ vs) = ap suc (length-journal vs)
+use Rattle.reading.specs.Theorems.Limits.{accepted-visits, length-journal}
+use Rattle.reading.specs.Theorems.Answers.{ErrorFound, ten-only-after-error, zero-or-ten}
 
 take-front : {A : Type 0} (xs ys : List A) → take (length xs) (xs ++ ys) ≡ xs
 take-front [] ys = take-none ys
@@ -91,6 +87,30 @@ answered-accepted q a = by (eqb (refusalOf q) 0) refl a
     by false e (inl z) = sym (refused-answer q (eqb-false (refusalOf q) 0 e)) ∙ z
     by false e (inr t) = absurd (omega (arith, few-refusals q, sym (refused-answer q (eqb-false (refusalOf q) 0 e)) ∙ t))
 
+-- the error's index is 0 with every answer but 10 (docs/DECISIONS.md, D122)
+no-error-index : (l : List Visit) → answerBy l ≡ 0 → errorIndexBy l ≡ 0
+no-error-index [] h = refl
+no-error-index (v ∷ vs) h = by (isError (v .ending)) (no-error-index vs) h
+  where
+    by : (b : Bool) → (answerBy vs ≡ 0 → errorIndexBy vs ≡ 0) → cond b 10 (answerBy vs) ≡ 0 → cond b (v .index) (errorIndexBy vs) ≡ 0
+    by true f g = absurd (omega arith)
+    by false f g = f g
+
+-- the index of visits whose answer is not 10
+not-ten : (l : List Visit) → (answerBy l ≡ 0) ⊎ (answerBy l ≡ 10) → (answerBy l ≡ 10 → ⊥) → errorIndexBy l ≡ 0
+not-ten l (inl z) n = no-error-index l z
+not-ten l (inr t) n = absurd (n t)
+
+pub other-answers-no-index : (q : Call) → (outcomeOf q .answer ≡ 10 → ⊥) → outcomeOf q .error ≡ 0
+unfolding outcomeOf visitsOf
+other-answers-no-index q h = by (eqb (refusalOf q) 0) refl
+  where
+    by : (b : Bool) → eqb (refusalOf q) 0 ≡ b → errorIndexBy (keep b (walkOf q)) ≡ 0
+    by false e = refl
+    by true e =
+        not-ten (walkOf q) (zero-or-ten (walkOf q))
+        (λ t. h (ap (λ (b : Bool). cond b (answerBy (keep b (walkOf q))) (refusalOf q)) e ∙ t))
+
 -- demand 1: answer 10's condition
 pub ten-has-cause : (q : Call) → outcomeOf q .answer ≡ 10 → ErrorFound q (q .transaction .controls) (walkOf q)
 ten-has-cause q h = ten-only-after-error q (sym (accepted-answer q (answered-accepted q (inr h))) ∙ h)
@@ -105,6 +125,7 @@ demand3 q answered unallowed unstopped =
     let r : Replayed q [] (q .transaction .controls) (walkOf q) = walk-replayed q in
     let found : foundJournal (outcomeOf q) ≡ journalOf (walkOf q) = found-is q ∙ ap journalOf vs in
     record {
+      visits = ap length vs;
       journal = found;
       rising = rw found (indexes-rise q);
       ids = rw (found, vs, ← r .units);

@@ -5,24 +5,24 @@ use mathlib.Core.Path.{_≡_, refl, ap, _∙_}
 use mathlib.Core.List.{List, [], _∷_, _++_}
 use mathlib.Core.Bool.{Bool, true, false, not, cond, _||_}
 use native.Mathlib.Omega.{arith}
-use lib.ListN.{length, getD, length-append}
+use lib.ListN.{length, getD, take, drop, length-append, length-take, length-drop}
 use lib.Dec.{ltb, eqb}
 use borrow.Author.Tests.{ltb-false}
 use Rattle.reading.specs.declared.Verdict.{Verdict}
 use Rattle.reading.specs.declared.Rule.{Rule}
 use Rattle.reading.specs.declared.Place.{Place}
 use Rattle.reading.specs.declared.OptionU64.{OptionU64}
-use Rattle.reading.specs.Lists.{keep, total, gather}
+use Rattle.reading.specs.Lists.{keep, total, gather, over}
 use Rattle.reading.specs.Numbers.{listOf}
 use Rattle.reading.specs.Directive.{Directive, ruleEngine, ruleRemoveById, ruleRemoveTargetById, requestBodyAccess, requestBodyProcessor, unsupported, rangesOf, targetCount}
 use Rattle.reading.specs.Controls.{Controls, applied}
 use Rattle.reading.specs.Actions.{Placed, actionsOf, controlsIn, directiveIn}
 use Rattle.reading.specs.Call.{Call, ruleCount, ruleAt, noRule, isLink, idAt, outcomeAt, actionsAt}
 use Rattle.reading.specs.Units.{starterOf, unitIds, unitData, memberData, dataEntry, actionControls, ruleControls, unitControls}
-use Rattle.reading.specs.Walk.{State, Visit, isLast, visitBy, visitAt, verdictAt, isVisited, walk, walkOf, start, nothingToDo, closedIn, idsOf, dataOf, controlsAfter}
+use Rattle.reading.specs.Walk.{State, Visit, isLast, visitBy, visitAt, verdictAt, isVisited, walk, walkOf, start, nothingToDo, journalOf, closedIn, idsOf, dataOf, controlsAfter}
 use Rattle.reading.specs.Replay.{unitsControls}
 use Rattle.reading.specs.Refusals.{refusalOf, refused1, refused2, refused3, refused4, refused5, refused6, refused7, refused8, refused9, rangesAdded, targetsAdded, ruleRanges, ruleTargets}
-use Rattle.reading.specs.Outcome.{visitsOf, outcomeOf}
+use Rattle.reading.specs.Outcome.{visitsOf, outcomeOf, atFreeEnd}
 use Rattle.reading.specs.Theorems.Replayed.{walk-replayed}
 use Rattle.reading.specs.Theorems.Rising.{goes-ahead, visited-within}
 
@@ -331,6 +331,10 @@ pub record Within (q : Call) : Type 0 where
   pub ids : outcomeOf q .transaction .ids ≤ length (q .ids)
   pub data-entries : outcomeOf q .transaction .data-entries ≤ length (q .data-entries)
   pub visits : outcomeOf q .visits ≤ length (q .journal)
+  -- and no list grows or shrinks
+  pub ids-length : length (outcomeOf q .ids) ≡ length (q .ids)
+  pub data-length : length (outcomeOf q .data-entries) ≡ length (q .data-entries)
+  pub journal-length : length (outcomeOf q .journal) ≡ length (q .journal)
 
 -- refusals 8 and 9 that do not apply, by the weights above
 not-eighth : (q : Call) → refused8 q ≡ false
@@ -364,6 +368,20 @@ not-seventh q e =
       journal = ltb-false (length (q .journal)) (ruleCount q) (lists .1);
     }
 
+-- what is written within a list leaves its length
+over-length : {A : Type 0} (found new : List A) → length new ≤ length found → length (over found new) ≡ length found
+over-length found new h = omega (arith, length-append new (drop (length new) found), length-drop (length new) found)
+
+free-end-length : {A : Type 0} (used : ℕ) (found new : List A) → used + length new ≤ length found → length (atFreeEnd used found new) ≡ length found
+free-end-length used found new h =
+    let d : length (drop used found) ≡ length found - used = length-drop used found in
+    let t : length (take used found) ≡ used = length-take used found ∙ omega arith in
+    omega (arith, length-append (take used found) (over (drop used found) new), over-length (drop used found) new (omega arith))
+
+pub length-journal : (l : List Visit) → length (journalOf l) ≡ length l
+length-journal [] = refl
+length-journal (v ∷ vs) = ap suc (length-journal vs)
+
 pub accepted-within : (q : Call) → refusalOf q ≡ 0 → Within q
 unfolding outcomeOf
 accepted-within q e =
@@ -375,4 +393,7 @@ accepted-within q e =
       ids = rw (accepted-visits q e) (omega (arith, ids-within q, f .ids));
       data-entries = rw (accepted-visits q e) (omega (arith, data-within q, f .data-entries));
       visits = rw (accepted-visits q e) (omega (arith, visits-within q, f .journal));
+      ids-length = rw (accepted-visits q e) (free-end-length (q .transaction .ids) (q .ids) (idsOf q (walkOf q)) (omega (arith, ids-within q, f .ids)));
+      data-length = rw (accepted-visits q e) (free-end-length (q .transaction .data-entries) (q .data-entries) (dataOf q (walkOf q)) (omega (arith, data-within q, f .data-entries)));
+      journal-length = rw (accepted-visits q e) (over-length (q .journal) (journalOf (walkOf q)) (omega (arith, length-journal (walkOf q), visits-within q, f .journal)));
     }
