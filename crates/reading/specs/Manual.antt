@@ -3,16 +3,21 @@
 -- in the files above: both ends of a range are removed; the last disruptive action wins; flow, disruptive action and
 -- metadata are the chain starter's and wait for the whole chain; a chain matches where all its rules do.
 use Prim.Native.Nat.{ℕ, zero, suc, _+_}
-use mathlib.Core.Bool.{Bool, cond, _&&_, _||_}
-use mathlib.Core.List.{List}
+use mathlib.Core.Bool.{Bool, true, not, cond, _&&_, _||_}
+use mathlib.Core.List.{List, [], _∷_}
 use lib.Dec.{leb, eqb}
 use Rattle.reading.specs.declared.RuleEngineMode.{RuleEngineMode}
 use Rattle.reading.specs.declared.OptionU64.{OptionU64}
 use Rattle.reading.specs.declared.DisruptiveOutcome.{DisruptiveOutcome}
+use Rattle.reading.specs.declared.FlowOutcome.{FlowOutcome}
+use Rattle.reading.specs.declared.IdPart.{IdPart}
+use Rattle.reading.specs.Text.{idPart}
+use Rattle.reading.specs.Directive.{Directive, ruleRemoveById, unsupported, removalValue}
 use Rattle.reading.specs.Controls.{Controls, isOn}
+use Rattle.reading.specs.Actions.{Placed, lastOf, lastFlow, flowBy}
 use Rattle.reading.specs.Call.{Call}
 use Rattle.reading.specs.Units.{ruleControls, unitControls, isAllow, isStopping}
-use Rattle.reading.specs.Walk.{afterChain}
+use Rattle.reading.specs.Walk.{afterChain, isStopped}
 
 -- skipAfter. The manual: processing goes on with the first rule that follows the marker. The Rust's rule, and the manual's
 -- as 02 takes it, are `rust` and `manual` of Reading.antt.
@@ -56,3 +61,41 @@ rustLink c = c
 
 abbrev pub rustClosed : Call → List ℕ → Controls → Controls
 rustClosed q unit c = unitControls q unit c
+
+-- chain, multiMatch. The manual: multiMatch says how variables are matched and chain that the next rule belongs to this
+-- one; skip and skipAfter of a chain's starter act if the whole chain matches. So the last of skip and skipAfter decides.
+abbrev pub manualFlow : List Placed → FlowOutcome
+manualFlow ps = flowBy (lastOf (λ kind. eqb kind 8 || eqb kind 9) ps)
+
+-- 01: "and so does the last flow action: "skip:2,multiMatch" skips none"
+abbrev pub rustFlow : List Placed → FlowOutcome
+rustFlow ps = lastFlow ps
+
+-- phase 5. The manual: the logging phase is run for every transaction, whatever happened in it; allow passes the others.
+abbrev pub manualEnters : Call → Bool
+manualEnters q = eqb (q .phase) 5 || not (q .transaction .allowed || isStopped (q .transaction .intervention))
+
+-- 01: "Nothing is done if already allowed or stopped"
+abbrev pub rustEnters : Call → Bool
+rustEnters q = not (q .transaction .allowed || isStopped (q .transaction .intervention))
+
+-- phase 5. The manual: it is too late to stop a request there.
+abbrev pub manualStops : Call → Bool
+manualStops q = not (eqb (q .phase) 5)
+
+-- 01 makes no difference between phases
+abbrev pub rustStops : Call → Bool
+rustStops q = true
+
+-- ctl:ruleRemoveById. The manual: one id, or one range.
+abbrev pub manualRemovalBy : IdPart → Directive
+manualRemovalBy IdPart.Blank = unsupported
+manualRemovalBy IdPart.Bad = unsupported
+manualRemovalBy (IdPart.Range r) = ruleRemoveById (r ∷ [])
+
+abbrev pub manualRemoval : List ℕ → Directive
+manualRemoval value = manualRemovalBy (idPart value)
+
+-- 01: "parts between commas"
+abbrev pub rustRemoval : List ℕ → Directive
+rustRemoval value = removalValue value

@@ -6,6 +6,9 @@ use mathlib.Core.List.{List, [], _∷_, _++_, map}
 use lib.ListN.{length, take, drop as behind, replicate}
 use lib.Dec.{eqb}
 use Rattle.reading.specs.declared.RuleEngineMode.{RuleEngineMode}
+use Rattle.reading.specs.declared.ModeSetting.{ModeSetting}
+use Rattle.reading.specs.declared.AccessSetting.{AccessSetting}
+use Rattle.reading.specs.declared.ProcessorSetting.{ProcessorSetting}
 use Rattle.reading.specs.declared.Part.{Part}
 use Rattle.reading.specs.declared.Rule.{Rule}
 use Rattle.reading.specs.declared.Action.{Action}
@@ -18,7 +21,7 @@ use Rattle.reading.specs.declared.Intervention.{Intervention}
 use Rattle.reading.specs.declared.OptionIntervention.{OptionIntervention}
 use Rattle.reading.specs.Lists.{gather}
 use Rattle.reading.specs.Text.{ascii, same}
-use Rattle.reading.specs.Numbers.{modeNumber, presentNumber, numberOrZero}
+use Rattle.reading.specs.Numbers.{modeNumber, modeSettingNumber, accessSettingNumber, processorSettingNumber, presentNumber, numberOrZero}
 use Rattle.reading.specs.Directive.{directiveOf, isSupported}
 use Rattle.reading.specs.Controls.{Controls, noControls, isRemoved}
 use Rattle.reading.specs.Reading.{Reading, rust}
@@ -287,41 +290,78 @@ pub record Found : Type 0 where
 abbrev pub nothing : Found
 nothing = record { visits = []; ids = []; data-entries = []; allowed = false; stop = none }
 
--- the name of a case, its call, the answer with the error's index, what is found, how many ranges and targets are then
--- held, ids that are removed and ids that are not, and directives that are supported or not
+-- the name of a case, its call, the answer with the error's index, what is found, the settings that are then held and how
+-- many ranges and targets, ids that are removed and ids that are not, and directives that are supported or not
 pub record Row : Type 0 where
   pub name : String
   pub given : Call
   pub answer : ℕ
   pub error-index : ℕ
   pub found : Found
+  pub mode : ModeSetting
+  pub access : AccessSetting
+  pub processor : ProcessorSetting
   pub ranges : ℕ
   pub targets : ℕ
   pub gone : List ℕ
   pub kept : List ℕ
   pub told : List Told
 
--- a row of a call that is answered 0; one that says also what is removed and what is supported; one that adds
+-- a row by all that may differ, the settings being those at entry; a row of a call that is answered 0; one that says also what is removed and what is supported; one that adds
 -- targets; one that is answered 10; one that is refused
+abbrev pub rowOf : String → Call → ℕ → ℕ → Found → ℕ → ℕ → List ℕ → List ℕ → List Told → Row
+rowOf name given answer error-index found ranges targets gone kept told = record {
+  name = name;
+  given = given;
+  answer = answer;
+  error-index = error-index;
+  found = found;
+  mode = given .transaction .controls .mode;
+  access = given .transaction .controls .access;
+  processor = given .transaction .controls .processor;
+  ranges = ranges;
+  targets = targets;
+  gone = gone;
+  kept = kept;
+  told = told;
+}
+
 abbrev pub row : String → Call → Found → Row
-row name given found =
-    record { name = name; given = given; answer = 0; error-index = 0; found = found; ranges = 0; targets = 0; gone = []; kept = []; told = [] }
+row name given found = rowOf name given 0 0 found 0 0 [] [] []
 
 abbrev pub removal : String → Call → Found → ℕ → List ℕ → List ℕ → List Told → Row
-removal name given found ranges gone kept told =
-    record { name = name; given = given; answer = 0; error-index = 0; found = found; ranges = ranges; targets = 0; gone = gone; kept = kept; told = told }
+removal name given found ranges gone kept told = rowOf name given 0 0 found ranges 0 gone kept told
 
 abbrev pub targeting : String → Call → Found → ℕ → Row
-targeting name given found targets =
-    record { name = name; given = given; answer = 0; error-index = 0; found = found; ranges = 0; targets = targets; gone = []; kept = []; told = [] }
+targeting name given found targets = rowOf name given 0 0 found 0 targets [] [] []
 
 abbrev pub failing : String → Call → ℕ → Found → Row
-failing name given at found =
-    record { name = name; given = given; answer = 10; error-index = at; found = found; ranges = 0; targets = 0; gone = []; kept = []; told = [] }
+failing name given at found = rowOf name given 10 at found 0 0 [] [] []
 
 abbrev pub refused : String → Call → ℕ → Row
 refused name given number =
-    record { name = name; given = given; answer = number; error-index = 0; found = nothing; ranges = length (given .transaction .controls .ranges); targets = length (given .transaction .controls .targets); gone = []; kept = []; told = [] }
+    rowOf name given number 0 nothing (length (given .transaction .controls .ranges)) (length (given .transaction .controls .targets)) [] [] []
+
+-- a row after which other settings are held than at entry
+abbrev pub settling : AccessSetting → ProcessorSetting → ModeSetting → Row → Row
+settling access processor mode r = record {
+  name = r .name;
+  given = r .given;
+  answer = r .answer;
+  error-index = r .error-index;
+  found = r .found;
+  mode = mode;
+  access = access;
+  processor = processor;
+  ranges = r .ranges;
+  targets = r .targets;
+  gone = r .gone;
+  kept = r .kept;
+  told = r .told;
+}
+
+abbrev pub switching : RuleEngineMode → Row → Row
+switching mode r = settling (r .access) (r .processor) (ModeSetting.Set mode) r
 
 -- WHETHER IT HOLDS
 
@@ -411,6 +451,9 @@ holdsAfter r o =
     && sameData (behind 1 (o .data-entries)) (r .found .data-entries)
     && eqBool (o .transaction .allowed) (r .found .allowed)
     && sameStop (o .transaction .intervention) (r .found .stop)
+    && eqb (modeSettingNumber (o .transaction .controls .mode)) (modeSettingNumber (r .mode))
+    && eqb (accessSettingNumber (o .transaction .controls .access)) (accessSettingNumber (r .access))
+    && eqb (processorSettingNumber (o .transaction .controls .processor)) (processorSettingNumber (r .processor))
     && eqb (length (o .transaction .controls .ranges)) (r .ranges)
     && eqb (length (o .transaction .controls .targets)) (r .targets)
     && allGone (o .transaction .controls) true (r .gone)

@@ -6,6 +6,8 @@ use mathlib.Core.List.{List, [], _∷_, _++_, map}
 use mathlib.Core.Bool.{Bool, true, false}
 use lib.ListN.{replicate}
 use Rattle.reading.specs.declared.RuleEngineMode.{RuleEngineMode}
+use Rattle.reading.specs.declared.BodyAccess.{BodyAccess}
+use Rattle.reading.specs.declared.BodyProcessor.{BodyProcessor}
 use Rattle.reading.specs.declared.ModeSetting.{ModeSetting}
 use Rattle.reading.specs.declared.AccessSetting.{AccessSetting}
 use Rattle.reading.specs.declared.ProcessorSetting.{ProcessorSetting}
@@ -28,7 +30,7 @@ use Rattle.reading.specs.Units.{ruleControls, unitFlow, unitDisruptive, 
 use Rattle.reading.specs.Walk.{verdictAt, afterChain, visitAt, walk, walkOf}
 use Rattle.reading.specs.Replay.{unitsOf, lastClosed}
 use Rattle.reading.specs.Outcome.{visitsOf, outcomeOf}
-use Rattle.reading.specs.Cases.Build.{deny, block, pass, allow, drop, chain, multiMatch, redirect, skipAfter, msg, skip, id, status, ctl, Written, Named, Row, none, stopped, stoppedWith, Told, row, removal, targeting, failing, refused, rule, link, noId, noIdLink, withOutcome, missed, inError, marker, callWith, callIn, call, nothing, matched, miss, removed, error, entry, noIdEntry, lentData, lentEntry, sameIds, sameVisits, sameData, sameStop, holds, allHold}
+use Rattle.reading.specs.Cases.Build.{deny, block, pass, allow, drop, chain, multiMatch, redirect, skipAfter, msg, skip, id, status, ctl, Written, Named, Row, none, stopped, stoppedWith, Told, rowOf, row, removal, settling, switching, targeting, failing, refused, rule, link, noId, noIdLink, withOutcome, missed, inError, marker, callWith, callIn, call, nothing, matched, miss, removed, error, entry, noIdEntry, lentData, lentEntry, sameIds, sameVisits, sameData, sameStop, holds, allHold}
 
 -- WHAT IS HELD AT ENTRY
 
@@ -223,14 +225,18 @@ points =
     -- an action that two members share acts for each
     ∷ targeting "D34" (withRules (record { present = 0; id = 0; link = 1; first = 0; count = 1 } ∷ sharing 0 1 ∷ []) (withOutcomes (2 ∷ 2 ∷ []) (call (noId (ctl "ruleRemoveTargetById" "1;A" ∷ []) ∷ noId [] ∷ []) []))) (record { visits = matched 0 ∷ matched 1 ∷ []; ids = []; data-entries = noIdEntry 0 ∷ noIdEntry 1 ∷ []; allowed = false; stop = none }) 2
     -- only the mode after all of a unit's controls counts
-    ∷ row "D35" (callIn RuleEngineMode.DetectionOnly (rule 10 (ctl "ruleEngine" "Off" ∷ ctl "ruleEngine" "On" ∷ deny ∷ []) ∷ []) []) (record { visits = matched 0 ∷ []; ids = 10 ∷ []; data-entries = entry 10 0 ∷ []; allowed = false; stop = stopped 403 (10 ∷ []) })
+    ∷ switching RuleEngineMode.On
+    (row "D35" (callIn RuleEngineMode.DetectionOnly (rule 10 (ctl "ruleEngine" "Off" ∷ ctl "ruleEngine" "On" ∷ deny ∷ []) ∷ []) []) (record { visits = matched 0 ∷ []; ids = 10 ∷ []; data-entries = entry 10 0 ∷ []; allowed = false; stop = stopped 403 (10 ∷ []) }))
     -- a mode that any member sets counts
-    ∷ row "D36a" (call (link 1 (deny ∷ []) ∷ rule 2 (ctl "ruleEngine" "DetectionOnly" ∷ []) ∷ []) []) (record { visits = matched 0 ∷ matched 1 ∷ []; ids = 1 ∷ []; data-entries = entry 1 0 ∷ entry 2 1 ∷ []; allowed = false; stop = none })
-    ∷ row "D36b" (callIn RuleEngineMode.DetectionOnly (link 1 (deny ∷ []) ∷ rule 2 (ctl "ruleEngine" "On" ∷ []) ∷ []) []) (record { visits = matched 0 ∷ matched 1 ∷ []; ids = 1 ∷ []; data-entries = entry 1 0 ∷ entry 2 1 ∷ []; allowed = false; stop = stopped 403 (2 ∷ 1 ∷ []) })
+    ∷ switching RuleEngineMode.DetectionOnly
+    (row "D36a" (call (link 1 (deny ∷ []) ∷ rule 2 (ctl "ruleEngine" "DetectionOnly" ∷ []) ∷ []) []) (record { visits = matched 0 ∷ matched 1 ∷ []; ids = 1 ∷ []; data-entries = entry 1 0 ∷ entry 2 1 ∷ []; allowed = false; stop = none }))
+    ∷ switching RuleEngineMode.On
+    (row "D36b" (callIn RuleEngineMode.DetectionOnly (link 1 (deny ∷ []) ∷ rule 2 (ctl "ruleEngine" "On" ∷ []) ∷ []) []) (record { visits = matched 0 ∷ matched 1 ∷ []; ids = 1 ∷ []; data-entries = entry 1 0 ∷ entry 2 1 ∷ []; allowed = false; stop = stopped 403 (2 ∷ 1 ∷ []) }))
     -- a link's controls wait
     ∷ removal "D36c" (call (link 1 (ctl "ruleRemoveById" "2" ∷ []) ∷ rule 2 [] ∷ rule 2 [] ∷ []) []) (record { visits = matched 0 ∷ matched 1 ∷ removed 2 ∷ []; ids = 1 ∷ []; data-entries = entry 1 0 ∷ entry 2 1 ∷ []; allowed = false; stop = none }) 1 (2 ∷ []) (1 ∷ []) []
     -- allow takes effect in Off
-    ∷ row "D37" (call (rule 10 (ctl "ruleEngine" "Off" ∷ allow ∷ []) ∷ rule 11 [] ∷ []) []) (record { visits = matched 0 ∷ []; ids = 10 ∷ []; data-entries = entry 10 0 ∷ []; allowed = true; stop = none })
+    ∷ switching RuleEngineMode.Off
+    (row "D37" (call (rule 10 (ctl "ruleEngine" "Off" ∷ allow ∷ []) ∷ rule 11 [] ∷ []) []) (record { visits = matched 0 ∷ []; ids = 10 ∷ []; data-entries = entry 10 0 ∷ []; allowed = true; stop = none }))
     -- a stop leaves flow without effect
     ∷ row "D38" (call (rule 10 (skip 1 ∷ deny ∷ []) ∷ rule 11 [] ∷ rule 12 [] ∷ []) []) (record { visits = matched 0 ∷ []; ids = 10 ∷ []; data-entries = entry 10 0 ∷ []; allowed = false; stop = stopped 403 (10 ∷ []) })
     -- pass is a disruptive action
@@ -246,6 +252,10 @@ points =
     ∷ row "D41" (call (rule 10 (block ∷ status 406 ∷ []) ∷ []) []) (record { visits = matched 0 ∷ []; ids = 10 ∷ []; data-entries = entry 10 0 ∷ []; allowed = false; stop = stopped 500 (10 ∷ []) })
     -- a position counts in the whole action list
     ∷ row "D42" (call (rule 10 [] ∷ rule 11 (redirect "a" ∷ []) ∷ []) []) (record { visits = matched 0 ∷ matched 1 ∷ []; ids = 10 ∷ 11 ∷ []; data-entries = entry 10 0 ∷ entry 11 1 ∷ []; allowed = false; stop = stoppedWith 302 (11 ∷ []) (OptionU64.Some 2) OptionU64.None false })
+    -- the last body access and processor win
+    ∷ settling (AccessSetting.Set BodyAccess.Off) (ProcessorSetting.Set BodyProcessor.Json) ModeSetting.Unset
+    (row "last-wins" (call (rule 10 (ctl "requestBodyAccess" "On" ∷ ctl "requestBodyProcessor" "XML" ∷ ctl "requestBodyAccess" "off" ∷ ctl "requestBodyProcessor" "json" ∷ []) ∷ []) [])
+    (record { visits = matched 0 ∷ []; ids = 10 ∷ []; data-entries = entry 10 0 ∷ []; allowed = false; stop = none }))
     -- the log is the starter's msg
     ∷ row "D44a" (call (link 1 (deny ∷ []) ∷ rule 2 (msg "x" ∷ []) ∷ []) []) (record { visits = matched 0 ∷ matched 1 ∷ []; ids = 1 ∷ []; data-entries = entry 1 0 ∷ entry 2 1 ∷ []; allowed = false; stop = stopped 403 (2 ∷ 1 ∷ []) })
     ∷ row "D44b" (call (link 1 (msg "w" ∷ deny ∷ msg "x" ∷ []) ∷ rule 2 [] ∷ []) []) (record { visits = matched 0 ∷ matched 1 ∷ []; ids = 1 ∷ []; data-entries = entry 1 0 ∷ entry 2 1 ∷ []; allowed = false; stop = stoppedWith 403 (2 ∷ 1 ∷ []) OptionU64.None (OptionU64.Some 3) false })
@@ -269,7 +279,8 @@ points =
     -- a skip may pass the last rule
     ∷ row "D48d" (call (rule 1 (skip 4294967295 ∷ []) ∷ rule 2 [] ∷ []) []) (record { visits = matched 0 ∷ []; ids = 1 ∷ []; data-entries = entry 1 0 ∷ []; allowed = false; stop = none })
     -- Off set by the last rule
-    ∷ row "D49" (call (rule 10 (ctl "ruleEngine" "Off" ∷ []) ∷ []) []) (record { visits = matched 0 ∷ []; ids = 10 ∷ []; data-entries = entry 10 0 ∷ []; allowed = false; stop = none })
+    ∷ switching RuleEngineMode.Off
+    (row "D49" (call (rule 10 (ctl "ruleEngine" "Off" ∷ []) ∷ []) []) (record { visits = matched 0 ∷ []; ids = 10 ∷ []; data-entries = entry 10 0 ∷ []; allowed = false; stop = none }))
     -- an error at a rule that an earlier unit removed
     ∷ removal "D50a" (call (rule 1 (ctl "ruleRemoveById" "2" ∷ []) ∷ inError (rule 2 []) ∷ []) []) (record { visits = matched 0 ∷ removed 1 ∷ []; ids = 1 ∷ []; data-entries = entry 1 0 ∷ []; allowed = false; stop = none }) 1 (2 ∷ []) (1 ∷ []) []
     -- an error at a rule that is passed
@@ -336,7 +347,7 @@ points =
     ∷ refused "D22a" (callWith rust RuleEngineMode.On noControls false (noId (times 65 (ctl "ruleRemoveTargetById" "1;A")) ∷ []) []) 9
     ∷ refused "D22b" (callWith rust RuleEngineMode.On (holding (times 256 (range 1 1))) false (noId (times 65 (ctl "ruleRemoveTargetById" "1;A")) ∷ rule 11 (ctl "ruleRemoveById" "7" ∷ []) ∷ []) []) 8
     -- a call that would do nothing is refused too
-    ∷ record { name = "D23"; given = withJournal [] (callWith rust RuleEngineMode.On noControls true (rule 10 [] ∷ []) []); answer = 7; error-index = 0; found = record { visits = []; ids = []; data-entries = []; allowed = true; stop = none }; ranges = 0; targets = 0; gone = []; kept = []; told = [] }
+    ∷ rowOf "D23" (withJournal [] (callWith rust RuleEngineMode.On noControls true (rule 10 [] ∷ []) [])) 7 0 (record { visits = []; ids = []; data-entries = []; allowed = true; stop = none }) 0 0 [] [] []
     -- the manual's reading: deny has the starter's last status action as its status
     ∷ row "D77a" (callManual (rule 10 (deny ∷ status 406 ∷ []) ∷ []) []) (record { visits = matched 0 ∷ []; ids = 10 ∷ []; data-entries = entry 10 0 ∷ []; allowed = false; stop = stopped 406 (10 ∷ []) })
     ∷ row "D77b" (callManual (link 1 (deny ∷ []) ∷ rule 2 (status 406 ∷ []) ∷ []) []) (record { visits = matched 0 ∷ matched 1 ∷ []; ids = 1 ∷ []; data-entries = entry 1 0 ∷ entry 2 1 ∷ []; allowed = false; stop = stopped 403 (2 ∷ 1 ∷ []) })

@@ -15,7 +15,7 @@ use Rattle.reading.specs.Units.{ruleControls, unitFlow, unitDisruptive, 
 use Rattle.reading.specs.Walk.{verdictAt, afterChain, visitAt, walk, walkOf}
 use Rattle.reading.specs.Replay.{unitsOf, lastClosed}
 use Rattle.reading.specs.Outcome.{visitsOf, outcomeOf}
-use Rattle.reading.specs.Cases.Build.{deny, pass, allow, skip, skipAfter, ctl, status, Row, none, stopped, Told, row, removal, rule, link, noId, missed, marker, call, callIn, matched, miss, removed, entry, sameIds, sameVisits, sameData, sameStop, holds, allHold}
+use Rattle.reading.specs.Cases.Build.{deny, pass, allow, skip, skipAfter, ctl, status, Row, none, stopped, Told, row, removal, switching, rule, link, noId, missed, marker, call, callIn, matched, miss, removed, entry, sameIds, sameVisits, sameData, sameStop, holds, allHold}
 
 abbrev told : String → Bool → Told
 told value supported = record { directive = "ruleRemoveById"; value = value; supported = supported }
@@ -54,18 +54,20 @@ cases =
     (record { visits = matched 0 ∷ matched 1 ∷ removed 2 ∷ matched 3 ∷ []; ids = 40 ∷ 41 ∷ []; data-entries = entry 40 0 ∷ entry 41 1 ∷ entry 43 3 ∷ []; allowed = false; stop = stopped 403 (43 ∷ 41 ∷ []) })
     1 (42 ∷ []) (41 ∷ 43 ∷ []) (told "42" true ∷ [])
     -- C11 50 ruleEngine=DetectionOnly, deny: no intervention
-    ∷ row "C11" (call (rule 50 (ctl "ruleEngine" "DetectionOnly" ∷ deny ∷ []) ∷ []) [])
-    (record { visits = matched 0 ∷ []; ids = 50 ∷ []; data-entries = entry 50 0 ∷ []; allowed = false; stop = none })
+    ∷ switching RuleEngineMode.DetectionOnly
+    (row "C11" (call (rule 50 (ctl "ruleEngine" "DetectionOnly" ∷ deny ∷ []) ∷ []) [])
+    (record { visits = matched 0 ∷ []; ids = 50 ∷ []; data-entries = entry 50 0 ∷ []; allowed = false; stop = none }))
     -- C12 60 ruleEngine=Off; 61 deny: one visit
-    ∷ row "C12" (call (rule 60 (ctl "ruleEngine" "Off" ∷ []) ∷ rule 61 (deny ∷ []) ∷ []) [])
-    (record { visits = matched 0 ∷ []; ids = 60 ∷ []; data-entries = entry 60 0 ∷ []; allowed = false; stop = none })
+    ∷ switching RuleEngineMode.Off
+    (row "C12" (call (rule 60 (ctl "ruleEngine" "Off" ∷ []) ∷ rule 61 (deny ∷ []) ∷ []) [])
+    (record { visits = matched 0 ∷ []; ids = 60 ∷ []; data-entries = entry 60 0 ∷ []; allowed = false; stop = none }))
     -- C13 "942100-942999": 942999 removed, 943000 not
     ∷ removal "C13" (call (rule 1 (ctl "ruleRemoveById" "942100-942999" ∷ []) ∷ rule 942999 [] ∷ rule 943000 [] ∷ []) [])
     (record { visits = matched 0 ∷ removed 1 ∷ matched 2 ∷ []; ids = 1 ∷ 943000 ∷ []; data-entries = entry 1 0 ∷ entry 943000 2 ∷ []; allowed = false; stop = none })
     1 (942100 ∷ 942999 ∷ []) (942099 ∷ 943000 ∷ []) (told "942100-942999" true ∷ [])
     -- C14 "," and "1,5-4": unsupported, 1 not removed
-    ∷ removal "C14" (call (rule 9 (ctl "ruleRemoveById" "," ∷ ctl "ruleRemoveById" "1,5-4" ∷ []) ∷ rule 1 [] ∷ []) [])
-    (record { visits = matched 0 ∷ matched 1 ∷ []; ids = 9 ∷ 1 ∷ []; data-entries = entry 9 0 ∷ entry 1 1 ∷ []; allowed = false; stop = none })
+    ∷ removal "C14" (call (rule 8 (ctl "ruleRemoveById" "," ∷ ctl "ruleRemoveById" "1,5-4" ∷ []) ∷ rule 1 [] ∷ []) [])
+    (record { visits = matched 0 ∷ matched 1 ∷ []; ids = 8 ∷ 1 ∷ []; data-entries = entry 8 0 ∷ entry 1 1 ∷ []; allowed = false; stop = none })
     0 [] (1 ∷ 4 ∷ 5 ∷ []) (told "," false ∷ told "1,5-4" false ∷ [])
     -- C15 10 deny, status 406: 403
     ∷ row "C15" (call (rule 10 (deny ∷ status 406 ∷ []) ∷ []) [])

@@ -1,10 +1,13 @@
 -- Where the two readings, and the manual and the Rust, agree, so that docs/DIFFERENCES.md lists all that is left; and what
 -- does not depend on the reading.
 use Prim.Native.Nat.{ℕ, zero, suc, _+_, _≤_, _<_}
-use mathlib.Core.Path.{_≡_, refl, sym, _∙_}
+use mathlib.Core.Path.{_≡_, refl, sym, ap, _∙_}
+use mathlib.Core.Logic.{_⊎_, inl, inr}
+use mathlib.Core.Option.{Option, some, none}
 use mathlib.Core.List.{List, [], _∷_, _++_}
-use mathlib.Core.Bool.{Bool, true, false, cond, _&&_, _||_}
+use mathlib.Core.Bool.{Bool, true, false, not, cond, _&&_, _||_}
 use native.Mathlib.Omega.{arith}
+use lib.ListN.{length}
 use lib.Seq.{drop-cons}
 use lib.Dec.{leb, ltb, eqb}
 use borrow.Author.Tests.{le-leb, lt-leb, ne-eqb, ltb-true, ltb-false, eqb-true, eqb-false}
@@ -13,14 +16,22 @@ use Rattle.reading.specs.declared.OptionU64.{OptionU64}
 use Rattle.reading.specs.declared.Verdict.{Verdict}
 use Rattle.reading.specs.declared.FlowOutcome.{FlowOutcome}
 use Rattle.reading.specs.declared.DisruptiveOutcome.{DisruptiveOutcome}
-use Rattle.reading.specs.Controls.{Controls, isOn}
-use Rattle.reading.specs.Actions.{Placed, lastStatus}
+use Rattle.reading.specs.declared.IdPart.{IdPart}
+use Rattle.reading.specs.Text.{idParts, idPart, isBad, rangeIn, anyBad, rangesIn}
+use Rattle.reading.specs.Directive.{ruleRemoveById, unsupported}
+use Rattle.reading.specs.Controls.{Controls, isOn, isOff}
+use Rattle.reading.specs.Actions.{Placed, kindOf, lastFrom, lastOf, isFlow, flowBy, lastFlow, lastStatus}
 use Rattle.reading.specs.Reading.{Reading, rust, manual, jumps, rustStatus, manualStatus}
 use Rattle.reading.specs.Call.{Call, ruleCount, ruleAt, isLink, noRule, modeUnder}
-use Rattle.reading.specs.Walk.{State, goesOn, allows, stops, isLast, afterChain, afterFlow, endingBy, visitBy}
+use Rattle.reading.specs.Walk.{State, goesOn, allows, stops, isLast, afterChain, afterFlow, endingBy, visitBy, isStopped, nothingToDo}
 use Rattle.reading.specs.Units.{isAllow, isStopping, stopStatus, unitIntervention}
 use Rattle.reading.specs.Refusals.{refusalOf, refused1, refused2, refused3, refused4, refused5, refused6, refused7, refused8, refused9, ruleRanges, ruleTargets, rangesAdded, targetsAdded}
-use Rattle.reading.specs.Manual.{manualJumps, manualSkip, rustSkip, manualActs, rustActs, rustRedirectStatus, manualMatched, rustLink, rustClosed}
+use Rattle.reading.specs.Manual.{manualJumps, manualSkip, rustSkip, manualActs, rustActs, manualRedirectStatus, rustRedirectStatus, manualMatched, rustLink, rustClosed, manualFlow, rustFlow, manualEnters, rustEnters, manualStops, rustStops, manualRemovalBy, manualRemoval, rustRemoval}
+
+-- actions among which there is neither chain nor multiMatch
+abbrev pub NoChain : List Placed → Type 0
+NoChain [] = Unit {0}
+NoChain (p ∷ ps) = (kindOf p ≡ 7 → ⊥) × (kindOf p ≡ 10 → ⊥) × NoChain ps
 
 -- the manual's instance jumps as the manual says
 pub manual-jumps : (position after : ℕ) → jumps manual position after ≡ manualJumps position after
@@ -74,6 +85,64 @@ acts-agree mode d e = rw e
 pub controls-agree : (q : Call) (m : ℕ) (c : Controls) → rustClosed q (m ∷ []) c ≡ manualMatched q m c
 controls-agree q m c = refl
 
+-- redirect has the same status but for a status action of 301, 303 or 307
+pub redirects-agree : (n : ℕ) → (n ≡ 301 → ⊥) → (n ≡ 303 → ⊥) → (n ≡ 307 → ⊥)
+    → manualRedirectStatus (OptionU64.Some n) ≡ rustRedirectStatus (OptionU64.Some n)
+redirects-agree n a b c = rw (ne-eqb n 301 a, ne-eqb n 303 b, ne-eqb n 307 c)
+
+pub plain-redirects-agree : manualRedirectStatus OptionU64.None ≡ rustRedirectStatus OptionU64.None
+plain-redirects-agree = refl
+
+-- flow is the same where a rule has neither chain nor multiMatch
+flow-tests : (found : Option Placed) (ps : List Placed) → NoChain ps
+    → lastFrom found (λ kind. eqb kind 8 || eqb kind 9) ps ≡ lastFrom found isFlow ps
+flow-tests found [] h = refl
+flow-tests found (p ∷ ps) h =
+    ap (λ (b : Bool). lastFrom (cond b (some p) found) (λ kind. eqb kind 8 || eqb kind 9) ps) (by (kindOf p) (h .0) (h .1))
+    ∙ flow-tests (cond (isFlow (kindOf p)) (some p) found) ps (h .2)
+  where
+    by : (k : ℕ) → (k ≡ 7 → ⊥) → (k ≡ 10 → ⊥) → (eqb k 8 || eqb k 9) ≡ isFlow k
+    by k a b = go (eqb k 8) (eqb k 9) refl refl
+      where
+        outside : (k < 7) ⊎ (10 < k) → isFlow k ≡ false
+        outside (inl l) = rw (lt-leb 7 k l)
+        outside (inr g) = rw (le-leb 7 k (omega arith), lt-leb k 10 g)
+
+        inside : 7 ≤ k → k ≤ 10 → isFlow k ≡ true
+        inside l g = rw (le-leb 7 k l, le-leb k 10 g)
+
+        side : (b : Bool) → ltb k 7 ≡ b → (k ≡ 8 → ⊥) → (k ≡ 9 → ⊥) → (k < 7) ⊎ (10 < k)
+        side true e c d = inl (ltb-true k 7 e)
+        side false e c d = inr (omega (arith, ltb-false k 7 e))
+
+        go : (c d : Bool) → eqb k 8 ≡ c → eqb k 9 ≡ d → (c || d) ≡ isFlow k
+        go true d e f = sym (inside (omega (arith, eqb-true k 8 e)) (omega (arith, eqb-true k 8 e)))
+        go false true e f = sym (inside (omega (arith, eqb-true k 9 f)) (omega (arith, eqb-true k 9 f)))
+        go false false e f = sym (outside (side (ltb k 7) refl (eqb-false k 8 e) (eqb-false k 9 f)))
+
+pub flows-agree : (ps : List Placed) → NoChain ps → manualFlow ps ≡ rustFlow ps
+unfolding lastOf lastFlow
+flows-agree ps h = ap flowBy (flow-tests none ps h)
+
+-- phases 1 to 4 are entered alike, and stopped alike
+pub enters-agree : (q : Call) → (q .phase ≡ 5 → ⊥) → manualEnters q ≡ rustEnters q
+enters-agree q h = ap (λ (b : Bool). b || rustEnters q) (ne-eqb (q .phase) 5 h)
+
+pub stops-agree : (q : Call) → (q .phase ≡ 5 → ⊥) → manualStops q ≡ rustStops q
+stops-agree q h = ap not (ne-eqb (q .phase) 5 h)
+
+-- a value without a comma is read alike
+pub removals-agree : (value : List ℕ) → idParts value ≡ value ∷ [] → manualRemoval value ≡ rustRemoval value
+unfolding anyBad rangesIn
+removals-agree value h =
+    sym (ap (λ (ps : List (List ℕ)). cond (anyBad ps || eqb (length (rangesIn ps)) 0) unsupported (ruleRemoveById (rangesIn ps))) h ∙ by (idPart value))
+  where
+    by : (p : IdPart)
+        → cond (isBad p || false || eqb (length (rangeIn p ++ [])) 0) unsupported (ruleRemoveById (rangeIn p ++ [])) ≡ manualRemovalBy p
+    by IdPart.Blank = refl
+    by IdPart.Bad = refl
+    by (IdPart.Range r) = refl
+
 -- THE RUST'S RULES OF Manual.antt ARE THE WALK'S
 
 pub walk-skips : (q : Call) (after n : ℕ) → afterFlow q after (FlowOutcome.Skip n) ≡ rustSkip after n
@@ -86,6 +155,16 @@ walk-acts q unit c d = by (isAllow d) (isStopping d && isOn (modeUnder q c))
     by true b = refl
     by false true = refl
     by false false = refl
+
+-- a call that is not entered has nothing to do
+pub walk-enters : (q : Call) → rustEnters q ≡ false → nothingToDo q ≡ true
+walk-enters q h =
+    by (q .transaction .allowed) (isStopped (q .transaction .intervention)) (isOff (modeUnder q (q .transaction .controls))) (eqb (ruleCount q) 0) h
+  where
+    by : (a b c d : Bool) → not (a || b) ≡ false → (a || b || c || d) ≡ true
+    by true b c d e = refl
+    by false true c d e = refl
+    by false false c d e = absurd (let y : _≡_ {A = ℕ} 0 1 = cc in omega arith)
 
 pub walk-link : (q : Call) (st : State) → visitBy q st Verdict.Matched true .after .controls ≡ rustLink (st .controls)
 walk-link q st = refl
