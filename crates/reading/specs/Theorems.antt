@@ -4,3 +4,4 @@ pub mod Limits
 pub mod Answers
 pub mod Demands
 pub mod Readings
+pub mod FreeOutcomes

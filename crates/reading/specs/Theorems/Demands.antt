@@ -1,6 +1,6 @@
 -- The demands as theorems about the outcome that 01 defines, for any reading: demand 3 whole; a refused call and a call
 -- with nothing to do change nothing; the answers.
-use Prim.Native.Nat.{ℕ, suc, _+_, _≤_}
+use Prim.Native.Nat.{ℕ, _+_, _≤_}
 use mathlib.Core.Path.{_≡_, refl, sym, ap, _∙_}
 use mathlib.Core.List.{List, [], _∷_, _++_}
 use mathlib.Core.Logic.{_⊎_, inl, inr}
