@@ -39,6 +39,13 @@ withAccess c a = record { mode = c .mode; ranges = c .ranges; targets = c .targe
 abbrev pub withProcessor : Controls → BodyProcessor → Controls
 withProcessor c p = record { mode = c .mode; ranges = c .ranges; targets = c .targets; access = c .access; processor = ProcessorSetting.Set p }
 
+-- the same controls with other ranges, and with other targets
+abbrev pub withRanges : Controls → List RuleIdRange → Controls
+withRanges c rs = record { mode = c .mode; ranges = rs; targets = c .targets; access = c .access; processor = c .processor }
+
+abbrev pub withTargets : Controls → List Place → Controls
+withTargets c ts = record { mode = c .mode; ranges = c .ranges; targets = ts; access = c .access; processor = c .processor }
+
 -- 01: "Ranges and targets are added at the end."
 abbrev pub addRanges : List RuleIdRange → List RuleIdRange → List RuleIdRange
 addRanges held new = held ++ new
@@ -46,14 +53,12 @@ addRanges held new = held ++ new
 abbrev pub addTarget : List Place → Place → List Place
 addTarget held at = held ++ (at ∷ [])
 
--- 01: "the last mode, body access or processor wins.", and an unsupported
--- directive "changes nothing". The place is that of the ctl action.
+-- 01: "the last mode, body access or processor wins.", and an unsupported directive "changes nothing". The place is that
+-- of the ctl action.
 abbrev pub applied : Controls → Place → Directive → Controls
 applied c at (ruleEngine m) = withMode c m
-applied c at (ruleRemoveById rs) =
-    record { mode = c .mode; ranges = addRanges (c .ranges) rs; targets = c .targets; access = c .access; processor = c .processor }
-applied c at (ruleRemoveTargetById id target) =
-    record { mode = c .mode; ranges = c .ranges; targets = addTarget (c .targets) at; access = c .access; processor = c .processor }
+applied c at (ruleRemoveById rs) = withRanges c (addRanges (c .ranges) rs)
+applied c at (ruleRemoveTargetById id target) = withTargets c (addTarget (c .targets) at)
 applied c at (requestBodyAccess a) = withAccess c a
 applied c at (requestBodyProcessor p) = withProcessor c p
 applied c at unsupported = c
@@ -87,14 +92,16 @@ abbrev pub accessOf : AccessSetting → BodyAccess
 accessOf AccessSetting.Unset = BodyAccess.On
 accessOf (AccessSetting.Set a) = a
 
--- 01: "Struct with arrays of start and end numbers and their count": the list that such arrays stand for
+-- 01: "Struct with arrays of start and end numbers and their count": the list of so many entries that two arrays stand for
+abbrev pub pairList : {A : Type 0} → (ℕ → ℕ → A) → ℕ → List ℕ → List ℕ → List A
+pairList make zero firsts seconds = []
+pairList make (suc k) firsts seconds = pairList make k firsts seconds ++ (make (getD firsts k 0) (getD seconds k 0) ∷ [])
+
 abbrev pub rangeList : ℕ → List ℕ → List ℕ → List RuleIdRange
-rangeList zero starts ends = []
-rangeList (suc k) starts ends = rangeList k starts ends ++ (record { start = getD starts k 0; end = getD ends k 0 } ∷ [])
+rangeList count starts ends = pairList (λ start end. record { start = start; end = end }) count starts ends
 
 abbrev pub targetList : ℕ → List ℕ → List ℕ → List Place
-targetList zero phases positions = []
-targetList (suc k) phases positions = targetList k phases positions ++ (record { phase = getD phases k 0; position = getD positions k 0 } ∷ [])
+targetList count phases positions = pairList (λ phase position. record { phase = phase; position = position }) count phases positions
 
 -- QUESTIONS AND SINGLE ADDITIONS
 
@@ -151,19 +158,7 @@ addTargetAnswer c = cond (beyondLimits c) 3 (cond (leb mostTargets (length (c .t
 
 -- the controls after an addition: as before where the answer is not 0
 abbrev pub withRange : Controls → RuleIdRange → Controls
-withRange c r = record {
-  mode = c .mode;
-  ranges = addRanges (c .ranges) (keep (eqb (addRangeAnswer c r) 0) (r ∷ []));
-  targets = c .targets;
-  access = c .access;
-  processor = c .processor;
-}
+withRange c r = withRanges c (addRanges (c .ranges) (keep (eqb (addRangeAnswer c r) 0) (r ∷ [])))
 
 abbrev pub withTarget : Controls → Place → Controls
-withTarget c at = record {
-  mode = c .mode;
-  ranges = c .ranges;
-  targets = cond (eqb (addTargetAnswer c) 0) (addTarget (c .targets) at) (c .targets);
-  access = c .access;
-  processor = c .processor;
-}
+withTarget c at = withTargets c (cond (eqb (addTargetAnswer c) 0) (addTarget (c .targets) at) (c .targets))

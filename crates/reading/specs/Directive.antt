@@ -76,7 +76,7 @@ isSupported (requestBodyAccess a) = true
 isSupported (requestBodyProcessor p) = true
 isSupported unsupported = false
 
--- the ranges of a supported ruleRemoveById, and how many targets a supported ruleRemoveTargetById adds
+-- the ranges of a supported ruleRemoveById and their count, and how many targets a supported ruleRemoveTargetById adds
 abbrev pub rangesOf : Directive → List RuleIdRange
 rangesOf (ruleEngine m) = []
 rangesOf (ruleRemoveById rs) = rs
@@ -84,6 +84,9 @@ rangesOf (ruleRemoveTargetById id target) = []
 rangesOf (requestBodyAccess a) = []
 rangesOf (requestBodyProcessor p) = []
 rangesOf unsupported = []
+
+abbrev pub rangeCount : Directive → ℕ
+rangeCount d = length (rangesOf d)
 
 abbrev pub targetCount : Directive → ℕ
 targetCount (ruleEngine m) = 0

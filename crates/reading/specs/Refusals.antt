@@ -9,9 +9,9 @@ use Rattle.reading.specs.declared.Action.{Action}
 use Rattle.reading.specs.declared.Marker.{Marker}
 use Rattle.reading.specs.Lists.{any, total}
 use Rattle.reading.specs.Text.{largest}
-use Rattle.reading.specs.Directive.{isHigh, rangesOf, targetCount}
+use Rattle.reading.specs.Directive.{Directive, isHigh, rangeCount, targetCount}
 use Rattle.reading.specs.Controls.{beyondLimits, mostRanges, mostTargets}
-use Rattle.reading.specs.Actions.{Placed, actionsOf, controlsIn, directiveIn}
+use Rattle.reading.specs.Actions.{actionsOf, controlsIn, directiveIn}
 use Rattle.reading.specs.Call.{Call, ruleCount}
 
 -- 1. "The phase is not 1 to 5, or the rule set's mode is not 0 (On), 1 (DetectionOnly) or 2 (Off)."
@@ -77,26 +77,17 @@ refused7 q =
     || ltb (length (q .data-entries)) (q .transaction .data-entries + ruleCount q)
     || ltb (length (q .journal)) (ruleCount q)
 
--- the ranges and the targets that one ctl action adds, and all those of a rule
-unfoldable pub rangesAdded : Call → Placed → ℕ
-rangesAdded q p = length (rangesOf (directiveIn (q .text) p))
-
-unfoldable pub targetsAdded : Call → Placed → ℕ
-targetsAdded q p = targetCount (directiveIn (q .text) p)
-
-unfoldable pub ruleRanges : Call → Rule → ℕ
-ruleRanges q r = total (rangesAdded q) (controlsIn (actionsOf (q .actions) r))
-
-unfoldable pub ruleTargets : Call → Rule → ℕ
-ruleTargets q r = total (targetsAdded q) (controlsIn (actionsOf (q .actions) r))
+-- what all ctl actions of a rule give, each counted by its directive: 0 where it is unsupported
+unfoldable pub ruleTotal : Call → (Directive → ℕ) → Rule → ℕ
+ruleTotal q counted r = total (λ p. counted (directiveIn (q .text) p)) (controlsIn (actionsOf (q .actions) r))
 
 -- 8. "Held ranges plus those of all supported ruleRemoveById actions, counted rule by rule, exceed 256."
 unfoldable pub refused8 : Call → Bool
-refused8 q = ltb mostRanges (length (q .transaction .controls .ranges) + total (ruleRanges q) (q .rules))
+refused8 q = ltb mostRanges (length (q .transaction .controls .ranges) + total (ruleTotal q rangeCount) (q .rules))
 
 -- 9. "Held targets plus those of all supported target actions, counted rule by rule, exceed 64."
 unfoldable pub refused9 : Call → Bool
-refused9 q = ltb mostTargets (length (q .transaction .controls .targets) + total (ruleTargets q) (q .rules))
+refused9 q = ltb mostTargets (length (q .transaction .controls .targets) + total (ruleTotal q targetCount) (q .rules))
 
 -- 01: "Number and order agree; the first that applies is the answer, else 0 or 10." 0: none applies.
 unfoldable pub refusalOf : Call → ℕ

@@ -16,11 +16,12 @@ use Rattle.reading.specs.Controls.{Controls, applied}
 use Rattle.reading.specs.Actions.{Placed, controlsIn, directiveIn, lastDisruptive, lastFlow, metadataOf, lastStatus}
 use Rattle.reading.specs.Call.{Call, idAt, outcomeAt, actionsAt}
 
+-- the first member; no unit is without one, and 0 stands where there is none
 abbrev pub starterOf : List ℕ → ℕ
 starterOf [] = 0
 starterOf (m ∷ ms) = m
 
--- the last member, which closed the unit
+-- the last member, which closed the unit; 0 likewise
 abbrev pub closerOf : List ℕ → ℕ
 closerOf [] = 0
 closerOf (m ∷ []) = m
@@ -91,7 +92,8 @@ isStopping DisruptiveOutcome.Drop = true
 
 -- THE INTERVENTION that 01 builds from a unit
 
--- 01: "Redirect has status 302, drop 444 with the connection dropped, block the caller's default status"; deny by the reading
+-- 01: "Redirect has status 302, drop 444 with the connection dropped, block the caller's default status"; deny by the reading.
+-- 0 stands for what does not stop; it is never asked there
 abbrev pub stopStatus : Call → List Placed → DisruptiveOutcome → ℕ
 stopStatus q ps DisruptiveOutcome.Nothing = 0
 stopStatus q ps DisruptiveOutcome.Deny = q .reading .status (lastStatus ps)

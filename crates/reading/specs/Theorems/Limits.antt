@@ -14,14 +14,14 @@ use Rattle.reading.specs.declared.Place.{Place}
 use Rattle.reading.specs.declared.OptionU64.{OptionU64}
 use Rattle.reading.specs.Lists.{keep, total, gather, over}
 use Rattle.reading.specs.Numbers.{listOf}
-use Rattle.reading.specs.Directive.{Directive, ruleEngine, ruleRemoveById, ruleRemoveTargetById, requestBodyAccess, requestBodyProcessor, unsupported, rangesOf, targetCount}
+use Rattle.reading.specs.Directive.{Directive, ruleEngine, ruleRemoveById, ruleRemoveTargetById, requestBodyAccess, requestBodyProcessor, unsupported, rangeCount, targetCount}
 use Rattle.reading.specs.Controls.{Controls, applied}
-use Rattle.reading.specs.Actions.{Placed, actionsOf, controlsIn, directiveIn}
+use Rattle.reading.specs.Actions.{Placed, controlsIn, directiveIn}
 use Rattle.reading.specs.Call.{Call, ruleCount, ruleAt, noRule, isLink, idAt, outcomeAt, actionsAt}
 use Rattle.reading.specs.Units.{starterOf, unitIds, unitData, memberData, dataEntry, actionControls, ruleControls, unitControls}
 use Rattle.reading.specs.Walk.{State, Visit, isLast, visitBy, visitAt, verdictAt, isVisited, walk, walkOf, start, nothingToDo, journalOf, closedIn, idsOf, dataOf, controlsAfter}
 use Rattle.reading.specs.Replay.{unitsControls}
-use Rattle.reading.specs.Refusals.{refusalOf, refused1, refused2, refused3, refused4, refused5, refused6, refused7, refused8, refused9, rangesAdded, targetsAdded, ruleRanges, ruleTargets}
+use Rattle.reading.specs.Refusals.{refusalOf, refused1, refused2, refused3, refused4, refused5, refused6, refused7, refused8, refused9, ruleTotal}
 use Rattle.reading.specs.Outcome.{visitsOf, outcomeOf, atFreeEnd}
 use Rattle.reading.specs.Theorems.Replayed.{walk-replayed}
 use Rattle.reading.specs.Theorems.Rising.{goes-ahead, visited-within}
@@ -140,10 +140,10 @@ ahead-ones (suc k) i = omega (arith, ahead-ones k (suc i))
 record Counted (count : Controls → ℕ) (given : Directive → ℕ) : Type 0 where
   by-one : (c : Controls) (at : Place) (d : Directive) → count (applied c at d) ≡ count c + given d
 
-ranges-counted : Counted (λ c. length (c .ranges)) (λ d. length (rangesOf d))
+ranges-counted : Counted (λ c. length (c .ranges)) rangeCount
 ranges-counted = record { by-one = one }
   where
-    one : (c : Controls) (at : Place) (d : Directive) → length (applied c at d .ranges) ≡ length (c .ranges) + length (rangesOf d)
+    one : (c : Controls) (at : Place) (d : Directive) → length (applied c at d .ranges) ≡ length (c .ranges) + rangeCount d
     one c at (ruleEngine m) = omega arith
     one c at (ruleRemoveById rs) = length-append (c .ranges) rs
     one c at (ruleRemoveTargetById id target) = omega arith
@@ -163,10 +163,6 @@ targets-counted = record { by-one = one }
     one c at unsupported = omega arith
 
 module _ (q : Call) (count : Controls → ℕ) (given : Directive → ℕ) (counted : Counted count given) where
-  -- a rule's weight: what its control actions give
-  abbrev weight : Rule → ℕ
-  weight r = total (λ p. given (directiveIn (q .text) p)) (controlsIn (actionsOf (q .actions) r))
-
   actions-count : (ps : List Placed) (c : Controls)
       → count (actionControls q ps c) ≡ count c + total (λ p. given (directiveIn (q .text) p)) ps
   actions-count [] c = omega arith
@@ -175,26 +171,26 @@ module _ (q : Call) (count : Controls → ℕ) (given : Directive → ℕ) (coun
       let d : Directive = directiveIn (q .text) p in
       omega (arith, actions-count ps (applied c at d), counted .by-one c at d)
 
-  unit-count : (u : List ℕ) (c : Controls) → count (unitControls q u c) ≡ count c + total (λ m. weight (getD (q .rules) m noRule)) u
-  unfolding ruleControls actionsAt ruleAt
+  unit-count : (u : List ℕ) (c : Controls) → count (unitControls q u c) ≡ count c + total (λ m. ruleTotal q given (getD (q .rules) m noRule)) u
+  unfolding ruleControls actionsAt ruleAt ruleTotal
   unit-count [] c = omega arith
   unit-count (m ∷ ms) c =
       omega (arith, unit-count ms (ruleControls q m c), actions-count (controlsIn (actionsAt q m)) c)
 
   units-count : (us : List (List ℕ)) (c : Controls)
-      → count (unitsControls q us c) ≡ count c + total (total (λ m. weight (getD (q .rules) m noRule))) us
+      → count (unitsControls q us c) ≡ count c + total (total (λ m. ruleTotal q given (getD (q .rules) m noRule))) us
   units-count [] c = omega arith
   units-count (u ∷ us) c = omega (arith, units-count us (unitControls q u c), unit-count u c)
 
   -- the controls after the whole walk count at most those held and those of all rules
-  walk-count : count (controlsAfter (q .transaction .controls) (walkOf q)) ≤ count (q .transaction .controls) + total weight (q .rules)
+  walk-count : count (controlsAfter (q .transaction .controls) (walkOf q)) ≤ count (q .transaction .controls) + total (ruleTotal q given) (q .rules)
   walk-count =
       omega (
         arith,
         ap count (walk-replayed q .controls),
         units-count (closedIn (walkOf q)) (q .transaction .controls),
-        closed-weigh (λ m. weight (getD (q .rules) m noRule)) q,
-        ahead-rules weight (q .rules),
+        closed-weigh (λ m. ruleTotal q given (getD (q .rules) m noRule)) q,
+        ahead-rules (ruleTotal q given) (q .rules),
       )
 
 -- at most one id a unit, one unit a visit, and one visit a rule
@@ -336,18 +332,14 @@ pub record Within (q : Call) : Type 0 where
   pub data-length : length (outcomeOf q .data-entries) ≡ length (q .data-entries)
   pub journal-length : length (outcomeOf q .journal) ≡ length (q .journal)
 
--- refusals 8 and 9 that do not apply, by the weights above
-not-eighth : (q : Call) → refused8 q ≡ false
-    → length (q .transaction .controls .ranges) + total (weight q (λ c. length (c .ranges)) (λ d. length (rangesOf d)) ranges-counted) (q .rules) ≤ 256
-unfolding refused8 ruleRanges rangesAdded
-not-eighth q e =
-    ltb-false 256 (length (q .transaction .controls .ranges) + total (weight q (λ c. length (c .ranges)) (λ d. length (rangesOf d)) ranges-counted) (q .rules)) e
+-- refusals 8 and 9 that do not apply
+not-eighth : (q : Call) → refused8 q ≡ false → length (q .transaction .controls .ranges) + total (ruleTotal q rangeCount) (q .rules) ≤ 256
+unfolding refused8
+not-eighth q e = ltb-false 256 (length (q .transaction .controls .ranges) + total (ruleTotal q rangeCount) (q .rules)) e
 
-not-ninth : (q : Call) → refused9 q ≡ false
-    → length (q .transaction .controls .targets) + total (weight q (λ c. length (c .targets)) targetCount targets-counted) (q .rules) ≤ 64
-unfolding refused9 ruleTargets targetsAdded
-not-ninth q e =
-    ltb-false 64 (length (q .transaction .controls .targets) + total (weight q (λ c. length (c .targets)) targetCount targets-counted) (q .rules)) e
+not-ninth : (q : Call) → refused9 q ≡ false → length (q .transaction .controls .targets) + total (ruleTotal q targetCount) (q .rules) ≤ 64
+unfolding refused9
+not-ninth q e = ltb-false 64 (length (q .transaction .controls .targets) + total (ruleTotal q targetCount) (q .rules)) e
 
 -- the free entries, where refusal 7 does not apply
 pub record Free (q : Call) : Type 0 where
@@ -388,7 +380,7 @@ accepted-within q e =
     let p : Passed q = passed q e in
     let f : Free q = not-seventh q (p .seventh) in
     record {
-      ranges = rw (accepted-visits q e) (omega (arith, walk-count q (λ c. length (c .ranges)) (λ d. length (rangesOf d)) ranges-counted, not-eighth q (p .eighth)));
+      ranges = rw (accepted-visits q e) (omega (arith, walk-count q (λ c. length (c .ranges)) rangeCount ranges-counted, not-eighth q (p .eighth)));
       targets = rw (accepted-visits q e) (omega (arith, walk-count q (λ c. length (c .targets)) targetCount targets-counted, not-ninth q (p .ninth)));
       ids = rw (accepted-visits q e) (omega (arith, ids-within q, f .ids));
       data-entries = rw (accepted-visits q e) (omega (arith, data-within q, f .data-entries));

@@ -25,7 +25,7 @@ use Rattle.reading.specs.Reading.{Reading, rust, manual, jumps, rustStat
 use Rattle.reading.specs.Call.{Call, ruleCount, ruleAt, isLink, noRule, modeUnder}
 use Rattle.reading.specs.Walk.{State, goesOn, allows, stops, isLast, afterChain, afterFlow, endingBy, visitBy, isStopped, nothingToDo}
 use Rattle.reading.specs.Units.{isAllow, isStopping, stopStatus, unitIntervention}
-use Rattle.reading.specs.Refusals.{refusalOf, refused1, refused2, refused3, refused4, refused5, refused6, refused7, refused8, refused9, ruleRanges, ruleTargets, rangesAdded, targetsAdded}
+use Rattle.reading.specs.Refusals.{refusalOf, refused1, refused2, refused3, refused4, refused5, refused6, refused7, refused8, refused9, ruleTotal}
 use Rattle.reading.specs.Manual.{manualJumps, manualSkip, rustSkip, manualActs, rustActs, manualRedirectStatus, rustRedirectStatus, manualMatched, rustLink, rustClosed, manualFlow, rustFlow, manualEnters, rustEnters, manualStops, rustStops, manualRemovalBy, manualRemoval, rustRemoval}
 
 -- actions among which there is neither chain nor multiMatch
@@ -197,5 +197,5 @@ underReading r q = record {
 
 -- no refusal depends on the reading
 pub refusals-agree : (r : Reading) (q : Call) → refusalOf (underReading r q) ≡ refusalOf q
-unfolding refusalOf refused1 refused2 refused3 refused4 refused5 refused6 refused7 refused8 refused9 ruleRanges ruleTargets rangesAdded targetsAdded
+unfolding refusalOf refused1 refused2 refused3 refused4 refused5 refused6 refused7 refused8 refused9 ruleTotal
 refusals-agree r q = refl
