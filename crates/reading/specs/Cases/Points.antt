@@ -297,6 +297,15 @@ points =
     ∷ refused "D13d" (withRules (times 513 (sharing 0 0)) (call [] [])) 2
     ∷ refused "D13e" (withRecords [] (times 4097 (action 0 0 0 0 0 0)) [] [] [] (call [] [])) 2
     ∷ refused "D13f" (withRecords [] [] (times 257 (record { name = record { start = 0; len = 0 }; position = 0 })) [] [] (call [] [])) 2
+    ∷ refused "D13g" (withText (times 65537 65) (call [] [])) 2
+    -- each of these limits itself is taken; the mode is Off, so that nothing is done
+    ∷ row "D13h" (withLists 2 2 (times 513 9) (times 513 lentData) (times 512 lentEntry) (withRules (times 512 (sharing 0 0)) (call [] []))) nothing
+    ∷ row "D13i" (withRecords [] (times 4096 (action 0 0 0 0 0 0)) [] [] [] (call [] [])) nothing
+    ∷ row "D13j" (withRecords [] [] (times 256 (record { name = record { start = 0; len = 0 }; position = 0 })) [] [] (call [] [])) nothing
+    ∷ row "D13k" (withText (times 65536 127) (call [] [])) nothing
+    -- and so are phases 1 and 5
+    ∷ row "D13l" (inPhase 1 (call [] [])) nothing
+    ∷ row "D13m" (inPhase 5 (call [] [])) nothing
     -- 3: more in use than a list has
     ∷ refused "D14a" (withIds [] (call [] [])) 3
     ∷ refused "D14b" (withData [] (call [] [])) 3
@@ -325,6 +334,9 @@ points =
     ∷ refused "D18d" (withAction (action 8 4294967296 0 0 0 0) (call [] [])) 5
     ∷ refused "D18e" (withAction (action 18 256 0 0 0 0) (call [] [])) 5
     ∷ refused "D18f" (withAction (action 20 65536 0 0 0 0) (call [] [])) 5
+    -- the limit of each kind is taken
+    ∷ row "D18m" (withAction (action 20 65535 0 0 0 0) (withAction (action 17 255 0 0 0 0) (withAction (action 8 4294967295 0 0 0 0) (call [] [])))) nothing
+    ∷ refused "D18n" (withAction (action 16 256 0 0 0 0) (call [] [])) 5
     -- an unknown flag, and an unknown outcome
     ∷ refused "D18g" (withRules (record { present = 2; id = 0; link = 0; first = 0; count = 0 } ∷ []) (call [] [])) 5
     ∷ refused "D18h" (withRules (record { present = 0; id = 0; link = 2; first = 0; count = 0 } ∷ []) (call [] [])) 5
@@ -343,6 +355,13 @@ points =
     ∷ removal "D20b" (withRules [] (callWith rust RuleEngineMode.On (holding (times 256 (range 1 1))) false (noId (ctl "ruleRemoveById" "7" ∷ []) ∷ []) [])) nothing 256 [] [] []
     -- rules that are missed count
     ∷ refused "D20c" (callWith rust RuleEngineMode.On (holding (times 256 (range 1 1))) false (missed (rule 10 (ctl "ruleRemoveById" "7" ∷ [])) ∷ []) []) 8
+    -- 256 in all are taken
+    ∷ removal "D20d" (callHolding (times 255 (range 1 1)) (rule 10 (ctl "ruleRemoveById" "7" ∷ []) ∷ []))
+    (record { visits = matched 0 ∷ []; ids = 10 ∷ []; data-entries = entry 10 0 ∷ []; allowed = false; stop = none })
+    256 (1 ∷ 7 ∷ []) (10 ∷ []) []
+    -- and so are 64 targets
+    ∷ targeting "D20e" (call (noId (times 64 (ctl "ruleRemoveTargetById" "1;A")) ∷ []) [])
+    (record { visits = matched 0 ∷ []; ids = []; data-entries = noIdEntry 0 ∷ []; allowed = false; stop = none }) 64
     -- 9: targets, and 8 comes first
     ∷ refused "D22a" (callWith rust RuleEngineMode.On noControls false (noId (times 65 (ctl "ruleRemoveTargetById" "1;A")) ∷ []) []) 9
     ∷ refused "D22b" (callWith rust RuleEngineMode.On (holding (times 256 (range 1 1))) false (noId (times 65 (ctl "ruleRemoveTargetById" "1;A")) ∷ rule 11 (ctl "ruleRemoveById" "7" ∷ []) ∷ []) []) 8
