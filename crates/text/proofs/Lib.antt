@@ -1,0 +1,6 @@
+-- Laws on plain lists, for the proofs of several functions.
+pub mod Slices
+pub mod Trimming
+pub mod Spelling
+pub mod Digits
+pub mod Search

@@ -1,0 +1,33 @@
+-- Laws of `indexOf`, and of `any` from an index on. Assumes nothing.
+use Prim.Native.Nat.{ℕ, suc, _≤_, _<_}
+use mathlib.Core.Path.{_≡_}
+use mathlib.Core.Bool.{Bool, true, false}
+use mathlib.Core.List.{List}
+use borrow.Author.Tests.{eq-eqb, ne-eqb}
+use lib.ListN.{length, drop, getD, drop-of-length-le}
+use lib.Seq.{drop-cons}
+use Rattle.reading.specs.Lists.{any}
+use Rattle.reading.specs.Text.{indexOf}
+
+module _ (b : ℕ) (s : List ℕ) (i : ℕ) where
+  pub index-here : i < length s → getD s i 0 ≡ b → indexOf b (drop i s) ≡ 0
+  unfolding indexOf
+  index-here h e = rw (drop-cons s i 0 h, eq-eqb (getD s i 0) b e)
+
+  pub index-later : i < length s → (getD s i 0 ≡ b → ⊥) → indexOf b (drop i s) ≡ suc (indexOf b (drop (suc i) s))
+  unfolding indexOf
+  index-later h n = rw (drop-cons s i 0 h, ne-eqb (getD s i 0) b n)
+
+  pub index-none : length s ≤ i → indexOf b (drop i s) ≡ 0
+  unfolding indexOf
+  index-none h = rw (drop-of-length-le s h)
+
+module _ (test : ℕ → Bool) (s : List ℕ) (i : ℕ) where
+  pub any-here : i < length s → test (getD s i 0) ≡ true → any test (drop i s) ≡ true
+  any-here h e = rw (drop-cons s i 0 h, e)
+
+  pub any-later : i < length s → test (getD s i 0) ≡ false → any test (drop i s) ≡ any test (drop (suc i) s)
+  any-later h e = rw (drop-cons s i 0 h, e)
+
+  pub any-none : length s ≤ i → any test (drop i s) ≡ false
+  any-none h = rw (drop-of-length-le s h)

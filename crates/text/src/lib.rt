@@ -1,0 +1,197 @@
+// Bytes of a text: folding, trimming, comparison with a spelling, numbers, parts. Each function takes a
+// whole slice; the functions over a part of a lent text stand at the end and lend that part on.
+use reading::Number;
+use reading::Part;
+ghost use mathlib.Core.Path.{_≡_};
+ghost use Rattle.reading.specs.Lists.{any};
+ghost use Rattle.reading.specs.Text.{same, partOf, isBlank, trimStart, trimEnd, trim, foldByte, fold, digits, numberOf, indexOf};
+ghost use Rattle.reading.specs.Directive.{isHigh};
+
+// The ASCII lower case of a byte.
+pub fn fold_byte(b: u8) -> u8
+    ensures { λ r. ⌜ r ≡ foldByte b ⌝ }
+{
+    if b < 65 {
+        return b;
+    }
+    if 90 < b {
+        return b;
+    }
+    b + 32
+}
+
+// The bytes that are trimmed: 09 to 0D and 20 (hexadecimal).
+fn is_blank(b: u8) -> bool
+    ensures { λ r. ⌜ r ≡ isBlank b ⌝ }
+{
+    if b < 9 {
+        return false;
+    }
+    if b <= 13 {
+        return true;
+    }
+    b == 32
+}
+
+// A text without the blanks in front.
+fn trimmed_start(s: &[u8]) -> &[u8]
+    ensures { λ r. ⌜ now r ≡ trimStart (now (s .entry)) ⌝ }
+{
+    let mut i = 0;
+    while i < s.len() {
+        if is_blank(s[i]) {
+            i += 1;
+        } else {
+            return &s[i..];
+        }
+    }
+    &s[i..]
+}
+
+// A text without the blanks at its end.
+fn trimmed_end(s: &[u8]) -> &[u8]
+    ensures { λ r. ⌜ now r ≡ trimEnd (now (s .entry)) ⌝ }
+{
+    let mut n = s.len();
+    while 0 < n {
+        if is_blank(s[n - 1]) {
+            n -= 1;
+        } else {
+            return &s[..n];
+        }
+    }
+    &s[..n]
+}
+
+// A text without the blanks at its ends.
+pub fn trimmed(s: &[u8]) -> &[u8]
+    ensures { λ r. ⌜ now r ≡ trim (now (s .entry)) ⌝ }
+{
+    trimmed_end(trimmed_start(s))
+}
+
+// Whether a text, folded, is the given spelling.
+pub fn folds_to(s: &[u8], spelling: &[u8]) -> bool
+    ensures { λ r. ⌜ r ≡ same (fold (now (s .entry))) (now (spelling .entry)) ⌝ }
+{
+    if s.len() != spelling.len() {
+        return false;
+    }
+    let mut i = 0;
+    while i < s.len() {
+        if fold_byte(s[i]) == spelling[i] {
+            i += 1;
+        } else {
+            return false;
+        }
+    }
+    true
+}
+
+// One or more digits, at most 18446744073709551615; there is no limit to their count.
+fn read_digits(s: &[u8]) -> Number
+    ensures { λ r. ⌜ r ≡ digits (now (s .entry)) ⌝ }
+{
+    if s.len() == 0 {
+        return Number::Bad;
+    }
+    let mut v: u64 = 0;
+    let mut i = 0;
+    while i < s.len() {
+        let b = s[i];
+        if b < 48 {
+            return Number::Bad;
+        }
+        if 57 < b {
+            return Number::Bad;
+        }
+        let d = (b - 48) as u64;
+        // v * 10 + d would pass the largest number
+        if (18446744073709551615 - d) / 10 < v {
+            return Number::Bad;
+        }
+        v = v * 10 + d;
+        i += 1;
+    }
+    Number::Value(v)
+}
+
+// A number: an optional '+', then digits.
+pub fn read_number(s: &[u8]) -> Number
+    ensures { λ r. ⌜ r ≡ numberOf (now (s .entry)) ⌝ }
+{
+    if s.len() == 0 {
+        return Number::Bad;
+    }
+    if s[0] == b'+' {
+        return read_digits(&s[1..]);
+    }
+    read_digits(s)
+}
+
+// Where a byte stands first, or the length.
+pub fn find(s: &[u8], b: u8) -> usize
+    ensures { λ r. ⌜ r ≡ indexOf b (now (s .entry)) ⌝ }
+{
+    let mut i = 0;
+    while i < s.len() {
+        if s[i] == b {
+            return i;
+        }
+        i += 1;
+    }
+    i
+}
+
+// Whether a text has a byte of 80 (hexadecimal) or more.
+pub fn has_high_byte(s: &[u8]) -> bool
+    ensures { λ r. ⌜ r ≡ any isHigh (now (s .entry)) ⌝ }
+{
+    let mut i = 0;
+    while i < s.len() {
+        if 128 <= s[i] {
+            return true;
+        }
+        i += 1;
+    }
+    false
+}
+
+// A part of a text; what of it lies behind the text's end is left out.
+pub fn part_of(text: &[u8], p: Part) -> &[u8]
+    ensures { λ r. ⌜ now r ≡ partOf (now (text .entry)) p ⌝ }
+{
+    let n = text.len();
+    if n as u64 <= p.start {
+        return &text[n..];
+    }
+    let start = p.start as usize;
+    let rest = &text[start..];
+    let left = rest.len();
+    if left as u64 <= p.len {
+        return rest;
+    }
+    let len = p.len as usize;
+    &rest[..len]
+}
+
+// A part of a text, trimmed.
+pub fn trimmed_part(text: &[u8], p: Part) -> &[u8]
+    ensures { λ r. ⌜ now r ≡ trim (partOf (now (text .entry)) p) ⌝ }
+{
+    trimmed(part_of(text, p))
+}
+
+// Whether a part of a text, folded, is the given spelling.
+pub fn part_folds_to(text: &[u8], p: Part, spelling: &[u8]) -> bool
+    ensures { λ r. ⌜ r ≡ same (fold (partOf (now (text .entry)) p)) (now (spelling .entry)) ⌝ }
+{
+    folds_to(part_of(text, p), spelling)
+}
+
+// The number that a part of a text is.
+pub fn part_number(text: &[u8], p: Part) -> Number
+    ensures { λ r. ⌜ r ≡ numberOf (partOf (now (text .entry)) p) ⌝ }
+{
+    read_number(part_of(text, p))
+}
