@@ -1,9 +1,11 @@
 -- Laws of `indexOf`, and of `any` from an index on. Assumes nothing.
 use Prim.Native.Nat.{ℕ, suc, _≤_, _<_}
 use mathlib.Core.Path.{_≡_}
-use mathlib.Core.Bool.{Bool, true, false}
-use mathlib.Core.List.{List}
+use mathlib.Core.Bool.{Bool, true, false, cond}
+use mathlib.Core.List.{List, [], _∷_}
+use native.Mathlib.Omega.{arith}
 use borrow.Author.Tests.{eq-eqb, ne-eqb}
+use lib.Dec.{eqb}
 use lib.ListN.{length, drop, getD, drop-of-length-le}
 use lib.Seq.{drop-cons}
 use Rattle.reading.specs.Lists.{any}
@@ -21,6 +23,15 @@ module _ (b : ℕ) (s : List ℕ) (i : ℕ) where
   pub index-none : length s ≤ i → indexOf b (drop i s) ≡ 0
   unfolding indexOf
   index-none h = rw (drop-of-length-le s h)
+
+pub index-le : (b : ℕ) (s : List ℕ) → indexOf b s ≤ length s
+unfolding indexOf
+index-le b [] = omega arith
+index-le b (x ∷ xs) = go (eqb x b) (index-le b xs)
+  where
+    go : (t : Bool) → indexOf b xs ≤ length xs → cond t 0 (suc (indexOf b xs)) ≤ suc (length xs)
+    go true h = omega arith
+    go false h = omega arith
 
 module _ (test : ℕ → Bool) (s : List ℕ) (i : ℕ) where
   pub any-here : i < length s → test (getD s i 0) ≡ true → any test (drop i s) ≡ true

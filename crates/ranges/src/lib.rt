@@ -1,0 +1,147 @@
+// Lists of id ranges, the value of `ctl:ruleRemoveById` (`parse_id_ranges`). A list is read twice: once to
+// see whether all of it is supported and how many ranges it has, and once to write them, so that
+// nothing is written before the whole is known to fit.
+use reading::IdPart;
+use reading::Number;
+use reading::RuleIdRange;
+ghost use mathlib.Core.Path.{_≡_};
+ghost use Prim.Native.Nat.{_<_, _≤_, suc};
+ghost use lib.ListN.{length, take, drop};
+ghost use Rattle.reading.specs.Text.{trim, numberOf, idsFrom, idPart, isBad, rangeIn};
+ghost use Rattle.reading.specs.Directive.{removalValue};
+ghost use Rattle.ranges.specs.Ranges.{countOf, countIn, Put, Written};
+
+// The range between the two numbers around the index k.
+fn ids_around(t: &[u8], k: usize) -> IdPart
+    requires { ⌜ k < length (now t) ⌝ }
+    ensures { λ r. ⌜ r ≡ idsFrom (numberOf (trim (take k (now (t .entry))))) (numberOf (trim (drop (suc k) (now (t .entry))))) ⌝ }
+{
+    let before = text::trimmed(&t[..k]);
+    let Number::Value(start) = text::read_number(before) else {
+        return IdPart::Bad;
+    };
+    let from = k + 1;
+    let behind = text::trimmed(&t[from..]);
+    let Number::Value(end) = text::read_number(behind) else {
+        return IdPart::Bad;
+    };
+    if end < start {
+        return IdPart::Bad;
+    }
+    IdPart::Range(RuleIdRange { start, end })
+}
+
+// What one part between commas says.
+fn id_part(p: &[u8]) -> IdPart
+    ensures { λ r. ⌜ r ≡ idPart (now (p .entry)) ⌝ }
+{
+    let t = text::trimmed(p);
+    if t.len() == 0 {
+        return IdPart::Blank;
+    }
+    let k = text::find(t, b'-');
+    if k < t.len() {
+        return ids_around(t, k);
+    }
+    let Number::Value(id) = text::read_number(t) else {
+        return IdPart::Bad;
+    };
+    IdPart::Range(RuleIdRange { start: id, end: id })
+}
+
+fn is_bad(part: IdPart) -> bool
+    ensures { λ r. ⌜ r ≡ isBad part ⌝ }
+{
+    match part {
+        IdPart::Blank => false,
+        IdPart::Bad => true,
+        IdPart::Range(_) => false,
+    }
+}
+
+// How many ranges a part gives: one or none.
+fn ranges_in(part: IdPart) -> usize
+    ensures { λ r. ⌜ (r ≡ length (rangeIn part)) × (r ≤ 1) ⌝ }
+{
+    match part {
+        IdPart::Blank => 0,
+        IdPart::Bad => 0,
+        IdPart::Range(_) => 1,
+    }
+}
+
+// How many ranges a supported list has.
+pub enum RangeCount {
+    Unsupported,
+    Ranges(usize),
+}
+
+// A list without any range is unsupported.
+fn counted(n: usize) -> RangeCount
+    ensures { λ r. ⌜ r ≡ countOf n ⌝ }
+{
+    if n == 0 {
+        return RangeCount::Unsupported;
+    }
+    RangeCount::Ranges(n)
+}
+
+// How many ranges a list has, or that it is unsupported.
+pub fn count_ranges(value: &[u8]) -> RangeCount
+    ensures { λ r. ⌜ r ≡ countIn (removalValue (now (value .entry))) ⌝ }
+{
+    let mut n = 0;
+    let mut at = 0;
+    loop {
+        let rest = &value[at..];
+        let comma = text::find(rest, b',');
+        let part = id_part(&rest[..comma]);
+        if is_bad(part) {
+            return RangeCount::Unsupported;
+        }
+        n += ranges_in(part);
+        if value.len() - at <= comma {
+            return counted(n);
+        }
+        at += comma + 1;
+    }
+}
+
+// Writes a part's range at index k, where both lists have that place, and answers the next index.
+fn put_range(part: IdPart, k: usize, starts: &mut [u64], ends: &mut [u64]) -> usize
+    ensures { λ n. ⌜ Put part k (now (starts .entry)) (now (ends .entry)) n (now (starts .exit)) (now (ends .exit)) ⌝ }
+{
+    if starts.len() <= k {
+        return k;
+    }
+    if ends.len() <= k {
+        return k;
+    }
+    match part {
+        IdPart::Blank => k,
+        IdPart::Bad => k,
+        IdPart::Range(r) => {
+            starts[k] = r.start;
+            ends[k] = r.end;
+            k + 1
+        }
+    }
+}
+
+// Writes a list's ranges from the start of the two lent lists, as many as they have places for.
+pub fn write_ranges(value: &[u8], starts: &mut [u64], ends: &mut [u64])
+    ensures { λ _. ⌜ Written (now (value .entry)) (now (starts .entry)) (now (ends .entry)) (now (starts .exit)) (now (ends .exit)) ⌝ }
+{
+    let mut k = 0;
+    let mut at = 0;
+    loop {
+        let rest = &value[at..];
+        let comma = text::find(rest, b',');
+        let part = id_part(&rest[..comma]);
+        k = put_range(part, k, starts, ends);
+        if value.len() - at <= comma {
+            return;
+        }
+        at += comma + 1;
+    }
+}
