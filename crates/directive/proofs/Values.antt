@@ -1,0 +1,103 @@
+-- A directive by its name, and its value by the tests on it. Assumes nothing.
+use Prim.Native.Nat.{ℕ, suc, _≤_, _<_}
+use mathlib.Core.Path.{_≡_, refl, sym, ap, _∙_}
+use mathlib.Core.Bool.{Bool, true, false, cond, _||_}
+use mathlib.Core.List.{List}
+use native.Mathlib.Omega.{arith}
+use borrow.Author.Tests.{lt-ltb, le-ltb, ltb-true, ltb-false, eq-eqb, ne-eqb}
+use lib.Dec.{ltb, eqb}
+use lib.ListN.{length, take, drop}
+use Rattle.reading.specs.declared.CtlDirective.{CtlDirective}
+use Rattle.reading.specs.Text.{ascii, same, trim, fold, indexOf, holdsByte, cutBefore, cutBehind, idParts, anyBad, rangesIn}
+use Rattle.reading.specs.Directive.{Directive, unsupported, ruleRemoveById, ruleRemoveTargetById, engineValue, accessValue, processorValue, removalValue, targetValue, directiveNamed, directiveOf, isSupported, withoutLists}
+use Rattle.ranges.specs.declared.RangeCount.{RangeCount}
+use Rattle.ranges.specs.Ranges.{countIn}
+
+-- a removal by its count
+module _ (value lent : List ℕ) where
+  pub removal-none : countIn (removalValue value) ≡ RangeCount.Unsupported → CtlDirective.Unsupported ≡ withoutLists lent (removalValue value)
+  removal-none = go (anyBad (idParts value) || eqb (length (rangesIn (idParts value))) 0)
+    where
+      go : (b : Bool) → countIn (cond b unsupported (ruleRemoveById (rangesIn (idParts value)))) ≡ RangeCount.Unsupported
+          → CtlDirective.Unsupported ≡ withoutLists lent (cond b unsupported (ruleRemoveById (rangesIn (idParts value))))
+      go true e = refl
+      go false e = absurd (let z : _≡_ {A = ℕ} 0 1 = cc in omega arith)
+
+  pub removal-some : (n : ℕ) → countIn (removalValue value) ≡ RangeCount.Ranges n → CtlDirective.RuleRemoveById n ≡ withoutLists lent (removalValue value)
+  removal-some n = go (anyBad (idParts value) || eqb (length (rangesIn (idParts value))) 0)
+    where
+      go : (b : Bool) → countIn (cond b unsupported (ruleRemoveById (rangesIn (idParts value)))) ≡ RangeCount.Ranges n
+          → CtlDirective.RuleRemoveById n ≡ withoutLists lent (cond b unsupported (ruleRemoveById (rangesIn (idParts value))))
+      go true e = absurd (let z : _≡_ {A = ℕ} 0 1 = cc in omega arith)
+      go false e = let q : n ≡ length (rangesIn (idParts value)) = cc in ap CtlDirective.RuleRemoveById q
+
+-- a target by the texts on the two sides of its first ";"
+module _ (value : List ℕ) (k : ℕ) (ke : k ≡ indexOf 59 value) where
+  pub target-whole : length value ≤ k → isSupported (targetValue value) ≡ false
+  target-whole h = simp (sym ke, le-ltb k (length value) h)
+
+  module _ (h : k < length value) (id : List ℕ) (ie : id ≡ trim (take k value)) where
+    pub target-no-id : length id ≡ 0 → isSupported (targetValue value) ≡ false
+    target-no-id z = simp (sym ke, lt-ltb k (length value) h, sym ie, eq-eqb (length id) 0 z)
+
+    module _ (n : length id ≡ 0 → ⊥) (target : List ℕ) (te : target ≡ trim (drop (suc k) value)) where
+      pub target-both : ltb 0 (length target) ≡ isSupported (targetValue value)
+      target-both = go (ltb 0 (length target)) refl
+        where
+          go : (t : Bool) → ltb 0 (length target) ≡ t → t ≡ isSupported (targetValue value)
+          go true e =
+              let m = ne-eqb (length target) 0 (λ z. omega (arith, ltb-true 0 (length target) e)) in
+              sym (simp (sym ke, lt-ltb k (length value) h, sym ie, ne-eqb (length id) 0 n, sym te, m))
+          go false e =
+              let m = eq-eqb (length target) 0 (omega (arith, ltb-false 0 (length target) e)) in
+              sym (simp (sym ke, lt-ltb k (length value) h, sym ie, ne-eqb (length id) 0 n, sym te, m))
+
+module _ (value lent : List ℕ) where
+  -- the three outcomes of a target's value
+  abbrev sides : (held none : Bool) → Directive
+  sides held none = cond held (cond none unsupported (ruleRemoveTargetById (trim (cutBefore 59 value)) (trim (cutBehind 59 value)))) unsupported
+
+  pub target-no : isSupported (targetValue value) ≡ false → CtlDirective.Unsupported ≡ withoutLists lent (targetValue value)
+  target-no = go (holdsByte 59 value) (eqb (length (trim (cutBefore 59 value))) 0 || eqb (length (trim (cutBehind 59 value))) 0)
+    where
+      go : (held none : Bool) → isSupported (sides held none) ≡ false → CtlDirective.Unsupported ≡ withoutLists lent (sides held none)
+      go false none e = refl
+      go true true e = refl
+      go true false e = absurd (let z : _≡_ {A = ℕ} 0 1 = cc in omega arith)
+
+  pub target-yes : isSupported (targetValue value) ≡ true → CtlDirective.RuleRemoveTargetById (indexOf 59 lent) ≡ withoutLists lent (targetValue value)
+  target-yes = go (holdsByte 59 value) (eqb (length (trim (cutBefore 59 value))) 0 || eqb (length (trim (cutBehind 59 value))) 0)
+    where
+      go : (held none : Bool) → isSupported (sides held none) ≡ true
+          → CtlDirective.RuleRemoveTargetById (indexOf 59 lent) ≡ withoutLists lent (sides held none)
+      go false none e = absurd (let z : _≡_ {A = ℕ} 0 1 = cc in omega arith)
+      go true true e = absurd (let z : _≡_ {A = ℕ} 0 1 = cc in omega arith)
+      go true false e = refl
+
+-- a directive by its name; n and v are the trimmed texts
+module _ (name value n v : List ℕ) (en : n ≡ trim name) (ev : v ≡ trim value) where
+  trimmed-is : directiveOf name value ≡ directiveNamed (fold n) v
+  unfolding directiveOf
+  trimmed-is = ap (λ (t : List ℕ). directiveNamed (fold t) (trim value)) (sym en) ∙ ap (directiveNamed (fold n)) (sym ev)
+
+  pub is-engine : same (fold n) (ascii "ruleengine") ≡ true → directiveOf name value ≡ engineValue (fold v)
+  is-engine a = trimmed-is ∙ simp a
+
+  module _ (a : same (fold n) (ascii "ruleengine") ≡ false) where
+    pub is-removal : same (fold n) (ascii "ruleremovebyid") ≡ true → directiveOf name value ≡ removalValue v
+    is-removal b = trimmed-is ∙ simp (a, b)
+
+    module _ (b : same (fold n) (ascii "ruleremovebyid") ≡ false) where
+      pub is-target : same (fold n) (ascii "ruleremovetargetbyid") ≡ true → directiveOf name value ≡ targetValue v
+      is-target c = trimmed-is ∙ simp (a, b, c)
+
+      module _ (c : same (fold n) (ascii "ruleremovetargetbyid") ≡ false) where
+        pub is-access : same (fold n) (ascii "requestbodyaccess") ≡ true → directiveOf name value ≡ accessValue (fold v)
+        is-access d = trimmed-is ∙ simp (a, b, c, d)
+
+        module _ (d : same (fold n) (ascii "requestbodyaccess") ≡ false) where
+          pub is-processor : same (fold n) (ascii "requestbodyprocessor") ≡ true → directiveOf name value ≡ processorValue (fold v)
+          is-processor e = trimmed-is ∙ simp (a, b, c, d, e)
+
+          pub is-other : same (fold n) (ascii "requestbodyprocessor") ≡ false → directiveOf name value ≡ unsupported
+          is-other e = trimmed-is ∙ simp (a, b, c, d, e)

@@ -1,0 +1,224 @@
+// The ctl directive (`CtlDirective::parse`) and the directive reader, a call of its own on two texts and two
+// lent lists for the ranges.
+use ranges::RangeCount;
+use reading::AccessSetting;
+use reading::BodyAccess;
+use reading::BodyProcessor;
+use reading::CtlDirective;
+use reading::ModeSetting;
+use reading::ProcessorSetting;
+use reading::RuleEngineMode;
+ghost use mathlib.Core.Path.{_≡_};
+ghost use mathlib.Core.List.{List};
+ghost use Prim.Native.Nat.{ℕ};
+ghost use Rattle.reading.specs.Text.{fold};
+ghost use Rattle.reading.specs.Directive.{engineValue, accessValue, processorValue, removalValue, targetValue, directiveOf, isSupported, withoutLists, readerOutcome};
+ghost use Rattle.directive.specs.Reader.{engineBy, accessBy, processorBy, rangesCounted, turnedAway, outcomeFound};
+
+// The mode that a value names.
+fn mode_named(value: &[u8]) -> ModeSetting
+    ensures { λ r. ⌜ engineBy r ≡ engineValue (fold (now (value .entry))) ⌝ }
+{
+    if text::folds_to(value, b"on") {
+        return ModeSetting::Set(RuleEngineMode::On);
+    }
+    if text::folds_to(value, b"off") {
+        return ModeSetting::Set(RuleEngineMode::Off);
+    }
+    if text::folds_to(value, b"detectiononly") {
+        return ModeSetting::Set(RuleEngineMode::DetectionOnly);
+    }
+    ModeSetting::Unset
+}
+
+// The body access that a value names.
+fn access_named(value: &[u8]) -> AccessSetting
+    ensures { λ r. ⌜ accessBy r ≡ accessValue (fold (now (value .entry))) ⌝ }
+{
+    if text::folds_to(value, b"on") {
+        return AccessSetting::Set(BodyAccess::On);
+    }
+    if text::folds_to(value, b"off") {
+        return AccessSetting::Set(BodyAccess::Off);
+    }
+    AccessSetting::Unset
+}
+
+// The body processor that a value names.
+fn processor_named(value: &[u8]) -> ProcessorSetting
+    ensures { λ r. ⌜ processorBy r ≡ processorValue (fold (now (value .entry))) ⌝ }
+{
+    if text::folds_to(value, b"urlencoded") {
+        return ProcessorSetting::Set(BodyProcessor::Urlencoded);
+    }
+    if text::folds_to(value, b"multipart") {
+        return ProcessorSetting::Set(BodyProcessor::Multipart);
+    }
+    if text::folds_to(value, b"json") {
+        return ProcessorSetting::Set(BodyProcessor::Json);
+    }
+    if text::folds_to(value, b"xml") {
+        return ProcessorSetting::Set(BodyProcessor::Xml);
+    }
+    ProcessorSetting::Unset
+}
+
+// Of the four directives below the value as lent does not matter: only a target says where it is cut.
+fn rule_engine(value: &[u8]) -> CtlDirective
+    ensures { λ r. ⌜ ((lent : List ℕ) → r ≡ withoutLists lent (engineValue (fold (now (value .entry))))) ⌝ }
+{
+    let ModeSetting::Set(mode) = mode_named(value) else {
+        return CtlDirective::Unsupported;
+    };
+    CtlDirective::RuleEngine(mode)
+}
+
+fn rule_remove_by_id(value: &[u8]) -> CtlDirective
+    ensures { λ r. ⌜ ((lent : List ℕ) → r ≡ withoutLists lent (removalValue (now (value .entry)))) ⌝ }
+{
+    let RangeCount::Ranges(n) = ranges::count_ranges(value) else {
+        return CtlDirective::Unsupported;
+    };
+    CtlDirective::RuleRemoveById(n)
+}
+
+// Whether a value is a target: something on both sides of its first ';'.
+fn is_target(value: &[u8]) -> bool
+    ensures { λ r. ⌜ r ≡ isSupported (targetValue (now (value .entry))) ⌝ }
+{
+    let cut = text::find(value, b';');
+    if value.len() <= cut {
+        return false;
+    }
+    let id = text::trimmed(&value[..cut]);
+    if id.len() == 0 {
+        return false;
+    }
+    let from = cut + 1;
+    let target = text::trimmed(&value[from..]);
+    0 < target.len()
+}
+
+fn request_body_access(value: &[u8]) -> CtlDirective
+    ensures { λ r. ⌜ ((lent : List ℕ) → r ≡ withoutLists lent (accessValue (fold (now (value .entry))))) ⌝ }
+{
+    let AccessSetting::Set(access) = access_named(value) else {
+        return CtlDirective::Unsupported;
+    };
+    CtlDirective::RequestBodyAccess(access)
+}
+
+fn request_body_processor(value: &[u8]) -> CtlDirective
+    ensures { λ r. ⌜ ((lent : List ℕ) → r ≡ withoutLists lent (processorValue (fold (now (value .entry))))) ⌝ }
+{
+    let ProcessorSetting::Set(processor) = processor_named(value) else {
+        return CtlDirective::Unsupported;
+    };
+    CtlDirective::RequestBodyProcessor(processor)
+}
+
+// The target directive of a value as lent and trimmed. Where it is cut is said of the value as lent.
+fn rule_remove_target_by_id(value: &[u8], t: &[u8]) -> CtlDirective
+    ensures { λ r. ⌜ r ≡ withoutLists (now (value .entry)) (targetValue (now (t .entry))) ⌝ }
+{
+    if is_target(t) {
+        return CtlDirective::RuleRemoveTargetById(text::find(value, b';'));
+    }
+    CtlDirective::Unsupported
+}
+
+// What a directive says; the ranges of ruleRemoveById are counted and not written.
+pub fn parse(name: &[u8], value: &[u8]) -> CtlDirective
+    ensures { λ r. ⌜ r ≡ withoutLists (now (value .entry)) (directiveOf (now (name .entry)) (now (value .entry))) ⌝ }
+{
+    let directive = text::trimmed(name);
+    let v = text::trimmed(value);
+    if text::folds_to(directive, b"ruleengine") {
+        return rule_engine(v);
+    }
+    if text::folds_to(directive, b"ruleremovebyid") {
+        return rule_remove_by_id(v);
+    }
+    if text::folds_to(directive, b"ruleremovetargetbyid") {
+        return rule_remove_target_by_id(value, v);
+    }
+    if text::folds_to(directive, b"requestbodyaccess") {
+        return request_body_access(v);
+    }
+    if text::folds_to(directive, b"requestbodyprocessor") {
+        return request_body_processor(v);
+    }
+    CtlDirective::Unsupported
+}
+
+// How many ranges a directive removes.
+fn range_count(directive: CtlDirective) -> usize
+    ensures { λ r. ⌜ r ≡ rangesCounted directive ⌝ }
+{
+    match directive {
+        CtlDirective::RuleEngine(_) => 0,
+        CtlDirective::RuleRemoveById(n) => n,
+        CtlDirective::RuleRemoveTargetById(_) => 0,
+        CtlDirective::RequestBodyAccess(_) => 0,
+        CtlDirective::RequestBodyProcessor(_) => 0,
+        CtlDirective::Unsupported => 0,
+    }
+}
+
+// What the reader answers: 0 with the directive, or why the call is turned away (2, 6 or 7) with `Unsupported`.
+pub struct DirectiveRead {
+    pub answer: u64,
+    pub directive: CtlDirective,
+}
+
+fn refused(answer: u64) -> DirectiveRead
+    ensures { λ r. ⌜ r ≡ turnedAway answer ⌝ }
+{
+    DirectiveRead {
+        answer,
+        directive: CtlDirective::Unsupported,
+    }
+}
+
+// Reads a directive. The ranges of a supported ruleRemoveById go to the start of the two lists; nothing
+// is written unless they fit.
+pub fn read_directive(
+    name: &[u8],
+    value: &[u8],
+    starts: &mut [u64],
+    ends: &mut [u64],
+) -> DirectiveRead
+    ensures { λ r. ⌜ outcomeFound r (now (starts .exit)) (now (ends .exit)) ≡ readerOutcome (now (name .entry)) (now (value .entry)) (now (starts .entry)) (now (ends .entry)) ⌝ }
+{
+    if 65536 < name.len() {
+        return refused(2);
+    }
+    if 65536 < value.len() {
+        return refused(2);
+    }
+    if text::has_high_byte(name) {
+        return refused(6);
+    }
+    if text::has_high_byte(value) {
+        return refused(6);
+    }
+    let directive = parse(name, value);
+    let n = range_count(directive);
+    if starts.len() < n {
+        return refused(7);
+    }
+    if ends.len() < n {
+        return refused(7);
+    }
+    if n == 0 {
+        return DirectiveRead {
+            answer: 0,
+            directive,
+        };
+    }
+    ranges::write_ranges(text::trimmed(value), starts, ends);
+    DirectiveRead {
+        answer: 0,
+        directive,
+    }
+}
