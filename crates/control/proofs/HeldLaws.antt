@@ -1,32 +1,29 @@
 -- What the struct's tests and stores mean for the controls that it holds. Assumes nothing.
-use Prim.Native.Nat.{ℕ, zero, suc, _+_, _≤_, _<_}
+use Prim.Native.Nat.{ℕ, _+_, _≤_, _<_}
 use mathlib.Core.Path.{_≡_, refl, sym, ap, _∙_}
 use mathlib.Core.Bool.{Bool, true, false, cond, _||_}
-use mathlib.Core.List.{List, [], _∷_, _++_, append-nil}
+use mathlib.Core.List.{append-nil}
 use native.Mathlib.Omega.{arith}
-use native.Mathlib.Numerals.{add-one}
 use borrow.Author.Tests.{ltb-false, le-ltb, lt-leb, eq-eqb, ne-eqb}
-use lib.Dec.{ltb, leb, eqb}
-use lib.ListN.{length, drop, getD, set}
-use lib.Seq.{drop-set-lt}
+use lib.Dec.{ltb, leb}
+use lib.ListN.{length, set}
 use Rattle.reading.specs.declared.RuleIdRange.{RuleIdRange}
 use Rattle.reading.specs.declared.Place.{Place}
-use Rattle.reading.specs.Controls.{beyondLimits, Asked, asked, addRangeAnswer, addTargetAnswer, withRange, withTarget, rangeList, targetList}
+use Rattle.reading.specs.Controls.{beyondLimits, asked, addRangeAnswer, addTargetAnswer, withRange, withTarget}
 use Rattle.reading.specs.Controls as reading
 use Rattle.control.specs.declared.Controls.{Controls}
-use Rattle.control.specs.declared.Changed.{Changed}
-use Rattle.control.specs.Held.{controlsOf, Became, Added, Answered}
-use Rattle.control.proofs.PairLaws.{length-pairs, pairs-more}
+use Rattle.control.specs.Held.{controlsOf, Added, Answered}
+use Rattle.control.proofs.PairLaws.{rangeOf, placeOf, length-pairs, stored}
 
 ranges-length : (c : Controls) → length (controlsOf c .ranges) ≡ c .ranges
 unfolding controlsOf
-ranges-length c = length-pairs (λ start end. record { start = start; end = end }) (c .starts) (c .ends) (c .ranges)
+ranges-length c = length-pairs rangeOf (c .starts) (c .ends) (c .ranges)
 
 pub targets-length : (c : Controls) → length (controlsOf c .targets) ≡ c .targets
 unfolding controlsOf
-targets-length c = length-pairs (λ phase position. record { phase = phase; position = position }) (c .phases) (c .positions) (c .targets)
+targets-length c = length-pairs placeOf (c .phases) (c .positions) (c .targets)
 
-pub beyond : (c : Controls) → beyondLimits (controlsOf c) ≡ (ltb 256 (c .ranges) || ltb 64 (c .targets))
+beyond : (c : Controls) → beyondLimits (controlsOf c) ≡ (ltb 256 (c .ranges) || ltb 64 (c .targets))
 unfolding beyondLimits
 beyond c = rw (ranges-length c, targets-length c)
 
@@ -38,7 +35,24 @@ within ranges targets t is e = go (ltb 256 ranges) refl (sym is ∙ e)
     go true d h = absurd (let z : _≡_ {A = ℕ} 0 1 = cc in omega arith)
     go false d h = (ltb-false 256 ranges d, ltb-false 64 targets h)
 
--- a question to controls beyond their limits, and to others: t is what `is_beyond` gave
+-- an addition that hands the struct back; where the answer is not 0 nothing is added
+handed-back : (c : Controls) (n answer : ℕ) (m : reading.Controls) → answer ≡ n → controlsOf c ≡ m
+    → Added c (record { answer = n; controls = c }) answer m
+handed-back c n answer m e d =
+    record {
+      answer-is = sym e;
+      became = record { meaning = d; starts = refl; ends = refl; phases = refl; positions = refl };
+      refused = λ h. refl;
+    }
+
+range-unchanged : (m : reading.Controls) (r : RuleIdRange) → (addRangeAnswer m r ≡ 0 → ⊥) → m ≡ withRange m r
+range-unchanged m r h =
+    rw (ne-eqb (addRangeAnswer m r) 0 h) (ap (reading.withRanges m) (sym (append-nil (m .ranges))))
+
+target-unchanged : (m : reading.Controls) (at : Place) → (addTargetAnswer m ≡ 0 → ⊥) → m ≡ withTarget m at
+target-unchanged m at h = rw (ne-eqb (addTargetAnswer m) 0 h)
+
+-- a question or an addition to controls beyond their limits, and to others: t is what `is_beyond` gave
 module _ (c : Controls) (t : Bool) (is : t ≡ (ltb 256 (c .ranges) || ltb 64 (c .targets))) where
   pub refuses : {A : Type 0} (value other : A) → t ≡ true → Answered 3 other (asked (controlsOf c) value other)
   refuses value other e =
@@ -50,7 +64,8 @@ module _ (c : Controls) (t : Bool) (is : t ≡ (ltb 256 (c .ranges) || ltb 64 (c
       let b : beyondLimits (controlsOf c) ≡ false = beyond c ∙ (sym is ∙ e) in
       record { answer-is = rw b; value-is = rw b v }
 
-  range-answer : (r : RuleIdRange) → addRangeAnswer (controlsOf c) r ≡ cond t 3 (cond (ltb (r .end) (r .start)) 5 (cond (leb 256 (c .ranges)) 8 0))
+  range-answer : (r : RuleIdRange)
+      → addRangeAnswer (controlsOf c) r ≡ cond t 3 (cond (ltb (r .end) (r .start)) 5 (cond (leb 256 (c .ranges)) 8 0))
   unfolding addRangeAnswer
   range-answer r = rw (beyond c, ← is, ranges-length c)
 
@@ -58,35 +73,16 @@ module _ (c : Controls) (t : Bool) (is : t ≡ (ltb 256 (c .ranges) || ltb 64 (c
   unfolding addTargetAnswer
   target-answer = rw (beyond c, ← is, targets-length c)
 
--- an addition whose answer is not 0 hands the struct back
-handed-back : (c : Controls) (n answer : ℕ) (m : reading.Controls) → answer ≡ n → controlsOf c ≡ m → Added c (record { answer = n; controls = c }) answer m
-handed-back c n answer m e d =
-    record {
-      answer-is = sym e;
-      became = record { meaning = d; starts = refl; ends = refl; phases = refl; positions = refl };
-      refused = λ h. refl;
-    }
-
-range-unchanged : (m : reading.Controls) (r : RuleIdRange) → (addRangeAnswer m r ≡ 0 → ⊥) → m ≡ withRange m r
-range-unchanged m r h =
-    let q = sym (append-nil (m .ranges)) in
-    rw (ne-eqb (addRangeAnswer m r) 0 h)
-    (λ i. record { mode = m .mode; ranges = q i; targets = m .targets; access = m .access; processor = m .processor })
-
-target-unchanged : (m : reading.Controls) (at : Place) → (addTargetAnswer m ≡ 0 → ⊥) → m ≡ withTarget m at
-target-unchanged m at h = rw (ne-eqb (addTargetAnswer m) 0 h)
-
-module _ (c : Controls) (t : Bool) (is : t ≡ (ltb 256 (c .ranges) || ltb 64 (c .targets))) where
   pub range-refused : (r : RuleIdRange) (n : ℕ) → cond t 3 (cond (ltb (r .end) (r .start)) 5 (cond (leb 256 (c .ranges)) 8 0)) ≡ n → 0 < n
       → Added c (record { answer = n; controls = c }) (addRangeAnswer (controlsOf c) r) (withRange (controlsOf c) r)
   range-refused r n e h =
-      let a : addRangeAnswer (controlsOf c) r ≡ n = range-answer c t is r ∙ e in
+      let a : addRangeAnswer (controlsOf c) r ≡ n = range-answer r ∙ e in
       handed-back c n (addRangeAnswer (controlsOf c) r) (withRange (controlsOf c) r) a (range-unchanged (controlsOf c) r (λ z. omega arith))
 
   pub target-refused : (at : Place) (n : ℕ) → cond t 3 (cond (leb 64 (c .targets)) 9 0) ≡ n → 0 < n
       → Added c (record { answer = n; controls = c }) (addTargetAnswer (controlsOf c)) (withTarget (controlsOf c) at)
   target-refused at n e h =
-      let a : addTargetAnswer (controlsOf c) ≡ n = target-answer c t is ∙ e in
+      let a : addTargetAnswer (controlsOf c) ≡ n = target-answer ∙ e in
       handed-back c n (addTargetAnswer (controlsOf c)) (withTarget (controlsOf c) at) a (target-unchanged (controlsOf c) at (λ z. omega arith))
 
   pub range-added : (r : RuleIdRange) → length (c .starts) ≡ 256 → length (c .ends) ≡ 256 → t ≡ false → r .start ≤ r .end → c .ranges < 256
@@ -107,16 +103,15 @@ module _ (c : Controls) (t : Bool) (is : t ≡ (ltb 256 (c .ranges) || ltb 64 (c
       (withRange (controlsOf c) r)
   unfolding controlsOf
   range-added r ls le e o h =
-      let a : addRangeAnswer (controlsOf c) r ≡ 0 = range-answer c t is r ∙ rw (e, le-ltb (r .end) (r .start) o, lt-leb 256 (c .ranges) h) in
-      let more : rangeList (c .ranges + 1) (set (c .starts) (c .ranges) (r .start)) (set (c .ends) (c .ranges) (r .end)) ≡ rangeList (c .ranges) (c .starts) (c .ends) ++ (r ∷ [])
-      = rw add-one (pairs-more (λ start end. record { start = start; end = end }) (c .starts) (c .ends) (c .ranges) (r .start) (r .end) (omega arith) (omega arith)) in
+      let a : addRangeAnswer (controlsOf c) r ≡ 0
+      = range-answer r ∙ rw (e, le-ltb (r .end) (r .start) o, lt-leb 256 (c .ranges) h) in
+      let st = stored rangeOf (c .starts) (c .ends) (c .ranges) (r .start) (r .end) 256 ls le h in
       record {
         answer-is = sym a;
         became = record {
-          meaning = rw (eq-eqb (addRangeAnswer (controlsOf c) r) 0 a)
-              (λ i. record { mode = c .settings .mode; ranges = more i; targets = targetList (c .targets) (c .phases) (c .positions); access = c .settings .access; processor = c .settings .processor });
-          starts = drop-set-lt (c .ranges + 1) (c .starts) (c .ranges) (r .start) (omega arith);
-          ends = drop-set-lt (c .ranges + 1) (c .ends) (c .ranges) (r .end) (omega arith);
+          meaning = rw (eq-eqb (addRangeAnswer (controlsOf c) r) 0 a) (ap (reading.withRanges (controlsOf c)) (st .list));
+          starts = st .firsts;
+          ends = st .seconds;
           phases = refl;
           positions = refl;
         };
@@ -141,18 +136,16 @@ module _ (c : Controls) (t : Bool) (is : t ≡ (ltb 256 (c .ranges) || ltb 64 (c
       (withTarget (controlsOf c) at)
   unfolding controlsOf
   target-added at lh lo e h =
-      let a : addTargetAnswer (controlsOf c) ≡ 0 = target-answer c t is ∙ rw (e, lt-leb 64 (c .targets) h) in
-      let more : targetList (c .targets + 1) (set (c .phases) (c .targets) (at .phase)) (set (c .positions) (c .targets) (at .position)) ≡ targetList (c .targets) (c .phases) (c .positions) ++ (at ∷ [])
-      = rw add-one (pairs-more (λ phase position. record { phase = phase; position = position }) (c .phases) (c .positions) (c .targets) (at .phase) (at .position) (omega arith) (omega arith)) in
+      let a : addTargetAnswer (controlsOf c) ≡ 0 = target-answer ∙ rw (e, lt-leb 64 (c .targets) h) in
+      let st = stored placeOf (c .phases) (c .positions) (c .targets) (at .phase) (at .position) 64 lh lo h in
       record {
         answer-is = sym a;
         became = record {
-          meaning = rw (eq-eqb (addTargetAnswer (controlsOf c)) 0 a)
-              (λ i. record { mode = c .settings .mode; ranges = rangeList (c .ranges) (c .starts) (c .ends); targets = more i; access = c .settings .access; processor = c .settings .processor });
+          meaning = rw (eq-eqb (addTargetAnswer (controlsOf c)) 0 a) (ap (reading.withTargets (controlsOf c)) (st .list));
           starts = refl;
           ends = refl;
-          phases = drop-set-lt (c .targets + 1) (c .phases) (c .targets) (at .phase) (omega arith);
-          positions = drop-set-lt (c .targets + 1) (c .positions) (c .targets) (at .position) (omega arith);
+          phases = st .firsts;
+          positions = st .seconds;
         };
         refused = λ z. absurd (z a);
       }

@@ -5,13 +5,22 @@ use mathlib.Core.Bool.{Bool, true, false, _||_, or-true}
 use mathlib.Core.List.{List, [], _∷_, _++_}
 use native.Mathlib.Omega.{arith}
 use borrow.Author.Tests.{ltb-true, ltb-false}
+use native.Mathlib.Numerals.{add-one}
 use lib.Dec.{ltb}
-use lib.ListN.{length, getD, set, length-append}
-use lib.Seq.{getD-set-same, getD-set-other}
+use lib.ListN.{length, drop, getD, set, length-append}
+use lib.Seq.{getD-set-same, getD-set-other, drop-set-lt}
+use Rattle.reading.specs.declared.RuleIdRange.{RuleIdRange}
 use Rattle.reading.specs.declared.Place.{Place}
 use Rattle.reading.specs.declared.OptionPlace.{OptionPlace}
 use Rattle.reading.specs.Lists.{any}
 use Rattle.reading.specs.Controls.{pairList, targetList, placeAt}
+
+-- an entry of the two lists
+abbrev pub rangeOf : ℕ → ℕ → RuleIdRange
+rangeOf start end = record { start = start; end = end }
+
+abbrev pub placeOf : ℕ → ℕ → Place
+placeOf phase position = record { phase = phase; position = position }
 
 any-append : {A : Type 0} (test : A → Bool) (xs ys : List A) → any test (xs ++ ys) ≡ (any test xs || any test ys)
 any-append test [] ys = refl
@@ -36,20 +45,32 @@ module _ {A : Type 0} (make : ℕ → ℕ → A) (xs ys : List ℕ) where
         getD-set-other ys k n y 0 (λ e. omega arith),
       )
 
-  -- one entry is added where both arrays are written at the count
-  pub pairs-more : (n x y : ℕ) → n < length xs → n < length ys
-      → pairList make (suc n) (set xs n x) (set ys n y) ≡ pairList make n xs ys ++ (make x y ∷ [])
-  pairs-more n x y h g = rw (pairs-behind n n x y (omega arith), getD-set-same xs n x 0 h, getD-set-same ys n y 0 g)
+  -- what is left where both arrays are written at the count: one entry more in the list, and the places behind it as found
+  pub record Stored (n x y : ℕ) : Type 0 where
+    pub list : pairList make (n + 1) (set xs n x) (set ys n y) ≡ pairList make n xs ys ++ (make x y ∷ [])
+    pub firsts : drop (n + 1) (set xs n x) ≡ drop (n + 1) xs
+    pub seconds : drop (n + 1) (set ys n y) ≡ drop (n + 1) ys
+
+  pub stored : (n x y size : ℕ) → length xs ≡ size → length ys ≡ size → n < size → Stored n x y
+  stored n x y size lx ly h =
+      record {
+        list = rw (
+          add-one,
+          pairs-behind n n x y (omega arith),
+          getD-set-same xs n x 0 (omega arith),
+          getD-set-same ys n y 0 (omega arith),
+        );
+        firsts = drop-set-lt (n + 1) xs n x (omega arith);
+        seconds = drop-set-lt (n + 1) ys n y (omega arith);
+      }
 
   -- an entry that passes a test
-  pub any-passed : (test : A → Bool) (n k : ℕ) → k < n → test (make (getD xs k 0) (getD ys k 0)) ≡ true → any test (pairList make n xs ys) ≡ true
+  pub any-passed : (test : A → Bool) (n k : ℕ) → k < n → test (make (getD xs k 0) (getD ys k 0)) ≡ true
+      → any test (pairList make n xs ys) ≡ true
   any-passed test zero k h e = absurd (omega arith)
   any-passed test (suc n) k h e =
       any-append test (pairList make n xs ys) (make (getD xs n 0) (getD ys n 0) ∷ []) ∙ go (ltb k n) refl (any-passed test n k)
     where
-      last : Bool
-      last = test (make (getD xs n 0) (getD ys n 0)) || false
-
       go : (t : Bool) → ltb k n ≡ t → (k < n → test (make (getD xs k 0) (getD ys k 0)) ≡ true → any test (pairList make n xs ys) ≡ true)
           → (any test (pairList make n xs ys) || (test (make (getD xs n 0) (getD ys n 0)) || false)) ≡ true
       go true d ih = rw (ih (ltb-true k n d) e)
@@ -81,10 +102,10 @@ place-last (q ∷ ps) p (suc k) e = place-last ps p k (omega arith)
 
 module _ (phases positions : List ℕ) where
   abbrev target : ℕ → Place
-  target k = record { phase = getD phases k 0; position = getD positions k 0 }
+  target k = placeOf (getD phases k 0) (getD positions k 0)
 
   targets-length : (n : ℕ) → length (targetList n phases positions) ≡ n
-  targets-length = length-pairs (λ phase position. record { phase = phase; position = position }) phases positions
+  targets-length = length-pairs placeOf phases positions
 
   pub no-target : (n k : ℕ) → n ≤ k → placeAt (targetList n phases positions) k ≡ OptionPlace.None
   no-target n k h = place-behind (targetList n phases positions) k (omega (arith, targets-length n))
@@ -93,13 +114,11 @@ module _ (phases positions : List ℕ) where
   target-at zero k h = absurd (omega arith)
   target-at (suc n) k h = go (ltb k n) refl (target-at n k)
     where
-      held : List Place
-      held = targetList n phases positions
-
       go : (t : Bool) → ltb k n ≡ t → (k < n → placeAt (targetList n phases positions) k ≡ OptionPlace.Some (target k))
           → placeAt (targetList n phases positions ++ (target n ∷ [])) k ≡ OptionPlace.Some (target k)
       go true d ih =
-          place-before (targetList n phases positions) (target n ∷ []) k (omega (arith, targets-length n, ltb-true k n d)) ∙ ih (ltb-true k n d)
+          place-before (targetList n phases positions) (target n ∷ []) k (omega (arith, targets-length n, ltb-true k n d))
+          ∙ ih (ltb-true k n d)
       go false d ih =
           let q : k ≡ n = omega (arith, ltb-false k n d) in
           place-last (targetList n phases positions) (target n) k (omega (arith, targets-length n))

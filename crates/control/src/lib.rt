@@ -98,14 +98,19 @@ fn held(count: usize) -> usize
 fn contains(start: u64, end: u64, id: u64) -> bool
     ensures { λ r. ⌜ r ≡ inRange id (record { start = start; end = end }) ⌝ }
 {
-    if id < start {
-        return false;
+    if start <= id {
+        return id <= end;
     }
-    id <= end
+    false
 }
 
 // Whether an id, or none, is removed by the first `count` ranges. No more than 256 are looked at.
-pub fn is_removed<'a>(starts: &'a [u64; 256], ends: &'a [u64; 256], count: usize, id: OptionU64) -> bool
+pub fn is_removed<'a>(
+    starts: &'a [u64; 256],
+    ends: &'a [u64; 256],
+    count: usize,
+    id: OptionU64,
+) -> bool
     ensures { λ r. ⌜ r ≡ isRemoved (rangeList (min count 256) (now (starts .entry)) (now (ends .entry))) id ⌝ }
 {
     // a rule without an id is never removed
@@ -233,9 +238,10 @@ impl Controls {
                 controls: self,
             };
         }
+        let after = at + 1;
         self.starts[at] = range.start;
         self.ends[at] = range.end;
-        self.ranges = at + 1;
+        self.ranges = after;
         Changed {
             answer: 0,
             controls: self,
@@ -260,9 +266,10 @@ impl Controls {
                 controls: self,
             };
         }
+        let after = next + 1;
         self.phases[next] = at.phase;
         self.positions[next] = at.position;
-        self.targets = next + 1;
+        self.targets = after;
         Changed {
             answer: 0,
             controls: self,
@@ -371,6 +378,9 @@ impl Controls {
         }
         let held = self.settings;
         let processor = held.processor;
-        ProcessorAnswer { answer: 0, processor }
+        ProcessorAnswer {
+            answer: 0,
+            processor,
+        }
     }
 }

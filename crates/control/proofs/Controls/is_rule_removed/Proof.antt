@@ -1,35 +1,24 @@
 use borrow.Author.Needs.{needs}
-use Prim.Native.Nat.{ℕ, suc, _+_, _-_, _≤_, _<_}
-use mathlib.Core.Path.{_≡_, refl, sym, ap, _∙_}
+use mathlib.Core.Path.{_≡_}
 use native.Mathlib.Omega.{arith}
-use native.Mathlib.Numerals.{add-one}
-use lib.ListN.{length, take, drop, getD}
 use Prim.Native.Nat.{min}
 use Rattle.control.specs.Held.{controlsOf}
 use Rattle.control.proofs.HeldLaws.{refuses, gives, within}
 use Rattle.control.proofs.Controls.is_rule_removed.Statement.{statement}
 use Rattle.control.proofs.Controls.is_rule_removed.Tie as tie
-use Rattle.control.proofs.Controls.is_rule_removed.Reads as reads
-use Rattle.control.proofs.Controls.is_rule_removed.Lts as lts
-use Rattle.control.proofs.is_beyond.Reads as is-beyond-reads
-use Rattle.control.proofs.is_removed.Reads as is-removed-reads
 
--- src/lib.rt:294:12
 is-beyond-requires : tie.Need-is-beyond-requires
 is-beyond-requires c κs = search needs
 
--- src/lib.rt:295:13
 returns : tie.Need-returns
 returns c = refuses (c .before .before .args .t1) _ (c .before .is-beyond .ensures) _ _ (c .if1 .taken)
 
--- src/lib.rt:300:13
 is-removed-requires : tie.Need-is-removed-requires
 is-removed-requires c κs = search needs
 
--- src/lib.rt:289:5
 returns-2 : tie.Need-returns-2
 unfolding controlsOf
-returns-2 c = 
+returns-2 c =
     let e = c .before .before .before .before in
     let s = e .before .before .args .t1 in
     let w = within (s .ranges) (s .targets) _ (e .before .is-beyond .ensures) (e .if1 .left) in

@@ -1,17 +1,11 @@
 use borrow.Author.Needs.{needs}
-use Prim.Native.Nat.{ℕ, suc, _+_, _-_, _≤_, _<_}
-use mathlib.Core.Path.{_≡_, refl, sym, ap, _∙_}
+use mathlib.Core.Path.{_≡_, sym, _∙_}
 use native.Mathlib.Omega.{arith}
-use native.Mathlib.Numerals.{add-one}
-use lib.ListN.{length, take, drop, getD}
-use lib.ListN.{length-map}
-use borrow.Author.Tests.{lt-ltb, le-ltb, le-leb, lt-leb}
+use lib.ListN.{length, length-map}
+use borrow.Author.Tests.{lt-ltb, le-ltb, le-leb}
 use Rattle.control.proofs.HeldLaws.{range-refused, range-added}
 use Rattle.control.proofs.Controls.remove_range.Statement.{statement}
 use Rattle.control.proofs.Controls.remove_range.Tie as tie
-use Rattle.control.proofs.Controls.remove_range.Reads as reads
-use Rattle.control.proofs.Controls.remove_range.Lts as lts
-use Rattle.control.proofs.is_beyond.Reads as is-beyond-reads
 
 -- the struct's arrays have their length
 starts-length : (c : tie.Start) → length (c .args .t1 .starts) ≡ 256
@@ -21,53 +15,43 @@ starts-length c = sym (length-map (c .args .t1 .starts) _) ∙ c .good .0 .1 .1 
 ends-length : (c : tie.Start) → length (c .args .t1 .ends) ≡ 256
 ends-length c = sym (length-map (c .args .t1 .ends) _) ∙ c .good .0 .1 .1 .1 .1 .0 .1 .0 .1
 
--- src/lib.rt:218:12
 is-beyond-requires : tie.Need-is-beyond-requires
 is-beyond-requires c κs = search needs
 
--- src/lib.rt:219:13
 returns : tie.Need-returns
-returns c = 
+returns c =
     let s = c .before .before in
     range-refused (s .args .t1) _ (c .before .is-beyond .ensures) (s .args .range) 3 (rw (c .if1 .taken)) (omega arith)
 
--- src/lib.rt:225:13
 returns-2 : tie.Need-returns-2
-returns-2 c = 
+returns-2 c =
     let s = c .before .before .before .before in
     range-refused (s .args .t1) _ (c .before .before .before .is-beyond .ensures) (s .args .range) 5
     (rw (c .before .before .if1 .left, lt-ltb _ _ (c .if2 .taken))) (omega arith)
 
--- src/lib.rt:231:13
 returns-3 : tie.Need-returns-3
-returns-3 c = 
+returns-3 c =
     let s = c .before .before .before .before .before in
     range-refused (s .args .t1) _ (c .before .before .before .before .is-beyond .ensures) (s .args .range) 8
     (rw (c .before .before .before .if1 .left, le-ltb _ _ (c .before .if2 .left), le-leb _ _ (c .if3 .taken))) (omega arith)
 
--- src/lib.rt:236:9
+add-after : tie.Need-add-after
+add-after c = search needs
+
 mul-self : tie.Need-mul-self
 mul-self c = search needs
 
--- src/lib.rt:236:9
 element-write-self : tie.Need-element-write-self
 element-write-self c = search needs
 
--- src/lib.rt:237:9
 mul-self-2 : tie.Need-mul-self-2
 mul-self-2 c = search needs
 
--- src/lib.rt:237:9
 element-write-self-2 : tie.Need-element-write-self-2
 element-write-self-2 c = search needs
 
--- src/lib.rt:238:23
-add-self : tie.Need-add-self
-add-self c = search needs
-
--- src/lib.rt:213:5
 returns-4 : tie.Need-returns-4
-returns-4 c = 
+returns-4 c =
     let s = c .before .before .before .before .before in
     range-added (s .args .t1) _ (c .before .before .before .before .is-beyond .ensures) (s .args .range) (starts-length s) (ends-length s)
     (c .before .before .before .if1 .left) (c .before .if2 .left) (c .if3 .left)
@@ -80,9 +64,9 @@ remove-range-spec =
     returns
     returns-2
     returns-3
+    add-after
     mul-self
     element-write-self
     mul-self-2
     element-write-self-2
-    add-self
     returns-4)

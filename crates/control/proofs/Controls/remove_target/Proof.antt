@@ -1,17 +1,11 @@
 use borrow.Author.Needs.{needs}
-use Prim.Native.Nat.{ℕ, suc, _+_, _-_, _≤_, _<_}
-use mathlib.Core.Path.{_≡_, refl, sym, ap, _∙_}
+use mathlib.Core.Path.{_≡_, sym, _∙_}
 use native.Mathlib.Omega.{arith}
-use native.Mathlib.Numerals.{add-one}
-use lib.ListN.{length, take, drop, getD}
-use lib.ListN.{length-map}
-use borrow.Author.Tests.{lt-ltb, le-ltb, le-leb, lt-leb}
+use lib.ListN.{length, length-map}
+use borrow.Author.Tests.{le-leb}
 use Rattle.control.proofs.HeldLaws.{target-refused, target-added}
 use Rattle.control.proofs.Controls.remove_target.Statement.{statement}
 use Rattle.control.proofs.Controls.remove_target.Tie as tie
-use Rattle.control.proofs.Controls.remove_target.Reads as reads
-use Rattle.control.proofs.Controls.remove_target.Lts as lts
-use Rattle.control.proofs.is_beyond.Reads as is-beyond-reads
 
 -- the struct's arrays have their length
 phases-length : (c : tie.Start) → length (c .args .t1 .phases) ≡ 64
@@ -21,46 +15,37 @@ phases-length c = sym (length-map (c .args .t1 .phases) _) ∙ c .good .0 .1 .1 
 positions-length : (c : tie.Start) → length (c .args .t1 .positions) ≡ 64
 positions-length c = sym (length-map (c .args .t1 .positions) _) ∙ c .good .0 .1 .1 .1 .1 .1 .1 .1 .0 .1 .0 .1
 
--- src/lib.rt:251:12
 is-beyond-requires : tie.Need-is-beyond-requires
 is-beyond-requires c κs = search needs
 
--- src/lib.rt:252:13
 returns : tie.Need-returns
-returns c = 
+returns c =
     let s = c .before .before in
     target-refused (s .args .t1) _ (c .before .is-beyond .ensures) (s .args .at) 3 (rw (c .if1 .taken)) (omega arith)
 
--- src/lib.rt:258:13
 returns-2 : tie.Need-returns-2
-returns-2 c = 
+returns-2 c =
     let s = c .before .before .before in
     target-refused (s .args .t1) _ (c .before .before .is-beyond .ensures) (s .args .at) 9
     (rw (c .before .if1 .left, le-leb _ _ (c .if2 .taken))) (omega arith)
 
--- src/lib.rt:263:9
+add-after : tie.Need-add-after
+add-after c = search needs
+
 mul-self : tie.Need-mul-self
 mul-self c = search needs
 
--- src/lib.rt:263:9
 element-write-self : tie.Need-element-write-self
 element-write-self c = search needs
 
--- src/lib.rt:264:9
 mul-self-2 : tie.Need-mul-self-2
 mul-self-2 c = search needs
 
--- src/lib.rt:264:9
 element-write-self-2 : tie.Need-element-write-self-2
 element-write-self-2 c = search needs
 
--- src/lib.rt:265:24
-add-self : tie.Need-add-self
-add-self c = search needs
-
--- src/lib.rt:246:5
 returns-3 : tie.Need-returns-3
-returns-3 c = 
+returns-3 c =
     let s = c .before .before .before in
     target-added (s .args .t1) _ (c .before .before .is-beyond .ensures) (s .args .at) (phases-length s) (positions-length s)
     (c .before .if1 .left) (c .if2 .left)
@@ -72,9 +57,9 @@ remove-target-spec =
     is-beyond-requires
     returns
     returns-2
+    add-after
     mul-self
     element-write-self
     mul-self-2
     element-write-self-2
-    add-self
     returns-3)

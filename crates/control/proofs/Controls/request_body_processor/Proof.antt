@@ -1,29 +1,21 @@
 use borrow.Author.Needs.{needs}
-use Prim.Native.Nat.{ℕ, suc, _+_, _-_, _≤_, _<_}
-use mathlib.Core.Path.{_≡_, refl, sym, ap, _∙_}
-use native.Mathlib.Omega.{arith}
-use native.Mathlib.Numerals.{add-one}
-use lib.ListN.{length, take, drop, getD}
+use mathlib.Core.Path.{refl}
 use Rattle.control.specs.Held.{controlsOf}
 use Rattle.control.proofs.HeldLaws.{refuses, gives}
 use Rattle.control.proofs.Controls.request_body_processor.Statement.{statement}
 use Rattle.control.proofs.Controls.request_body_processor.Tie as tie
-use Rattle.control.proofs.Controls.request_body_processor.Reads as reads
-use Rattle.control.proofs.Controls.request_body_processor.Lts as lts
-use Rattle.control.proofs.is_beyond.Reads as is-beyond-reads
 
--- src/lib.rt:366:12
 is-beyond-requires : tie.Need-is-beyond-requires
 is-beyond-requires c κs = search needs
 
--- src/lib.rt:367:13
 returns : tie.Need-returns
 returns c = refuses (c .before .before .args .self) _ (c .before .is-beyond .ensures) _ _ (c .if1 .taken)
 
--- src/lib.rt:363:5
 returns-2 : tie.Need-returns-2
 unfolding controlsOf
-returns-2 c = gives (c .before .before .before .args .self) _ (c .before .before .is-beyond .ensures) _ _ _ (c .before .if1 .left) refl
+returns-2 c =
+    let e = c .before in
+    gives (e .before .before .args .self) _ (e .before .is-beyond .ensures) _ _ _ (e .if1 .left) refl
 
 pub request-body-processor-spec : {M : Type 1} → statement M
 request-body-processor-spec = tie.close (tie.spec is-beyond-requires returns returns-2)
