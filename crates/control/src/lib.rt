@@ -377,10 +377,10 @@ impl Controls {
             };
         }
         let held = self.settings;
-        let processor = held.processor;
+        let setting = held.processor;
         ProcessorAnswer {
             answer: 0,
-            processor,
+            processor: setting,
         }
     }
 }
