@@ -1,0 +1,4 @@
+pub mod PairLaws
+pub mod RemovalLaws
+pub mod HeldLaws
+pub mod Determined

@@ -1,0 +1,386 @@
+// What the `ctl` directives of a transaction have set (`TransactionControls`), held in arrays and
+// handed back by each operation.
+use reading::AccessSetting;
+use reading::BodyAccess;
+use reading::BodyProcessor;
+use reading::ModeSetting;
+use reading::OptionPlace;
+use reading::OptionU64;
+use reading::Place;
+use reading::ProcessorSetting;
+use reading::RuleEngineMode;
+use reading::RuleIdRange;
+ghost use mathlib.Core.Path.{_≡_};
+ghost use mathlib.Core.Bool.{_||_};
+ghost use Prim.Native.Nat.{min};
+ghost use lib.Dec.{ltb};
+ghost use Rattle.reading.specs.Controls.{withMode, withAccess, withProcessor, withRange, withTarget, addRangeAnswer, addTargetAnswer};
+ghost use Rattle.reading.specs.Controls.{askMode, askRemoved, askTargetCount, askTarget, askAccess, askProcessor};
+ghost use Rattle.reading.specs.Controls.{isRemoved, inRange, rangeList, modeOr, accessOf, mostRanges, mostTargets};
+ghost use Rattle.control.specs.Held.{controlsOf, New, Became, Added, Answered};
+
+// The mode, the body access and the body processor, each set or not.
+pub struct Settings {
+    pub mode: ModeSetting,
+    pub access: AccessSetting,
+    pub processor: ProcessorSetting,
+}
+
+// `ranges` and `targets` say how many places of the arrays are in use, from the start.
+pub struct Controls {
+    pub settings: Settings,
+    pub starts: [u64; 256],
+    pub ends: [u64; 256],
+    pub ranges: usize,
+    pub phases: [u64; 64],
+    pub positions: [u64; 64],
+    pub targets: usize,
+}
+
+// The controls after an addition, with its answer.
+pub struct Changed {
+    pub answer: u64,
+    pub controls: Controls,
+}
+
+// The answers to questions: 0 and the value, or 3.
+pub struct ModeAnswer {
+    pub answer: u64,
+    pub mode: RuleEngineMode,
+}
+
+pub struct RemovedAnswer {
+    pub answer: u64,
+    pub removed: bool,
+}
+
+pub struct CountAnswer {
+    pub answer: u64,
+    pub count: usize,
+}
+
+pub struct TargetAnswer {
+    pub answer: u64,
+    pub target: OptionPlace,
+}
+
+pub struct AccessAnswer {
+    pub answer: u64,
+    pub access: BodyAccess,
+}
+
+pub struct ProcessorAnswer {
+    pub answer: u64,
+    pub processor: ProcessorSetting,
+}
+
+// Refusal 3: more than 256 ranges, more than 64 targets.
+fn is_beyond(ranges: usize, targets: usize) -> bool
+    ensures { λ r. ⌜ r ≡ (ltb mostRanges ranges || ltb mostTargets targets) ⌝ }
+{
+    if 256 < ranges {
+        return true;
+    }
+    64 < targets
+}
+
+// How many of 256 places are looked at where `count` are said to be in use.
+fn held(count: usize) -> usize
+    ensures { λ r. ⌜ r ≡ min count 256 ⌝ }
+{
+    if count < 256 {
+        return count;
+    }
+    256
+}
+
+// Both ends of a range are removed.
+fn contains(start: u64, end: u64, id: u64) -> bool
+    ensures { λ r. ⌜ r ≡ inRange id (record { start = start; end = end }) ⌝ }
+{
+    if start <= id {
+        return id <= end;
+    }
+    false
+}
+
+// Whether an id, or none, is removed by the first `count` ranges. No more than 256 are looked at.
+pub fn is_removed<'a>(
+    starts: &'a [u64; 256],
+    ends: &'a [u64; 256],
+    count: usize,
+    id: OptionU64,
+) -> bool
+    ensures { λ r. ⌜ r ≡ isRemoved (rangeList (min count 256) (now (starts .entry)) (now (ends .entry))) id ⌝ }
+{
+    // a rule without an id is never removed
+    let OptionU64::Some(number) = id else {
+        return false;
+    };
+    let n = held(count);
+    let mut i = 0;
+    while i < n {
+        if contains(starts[i], ends[i], number) {
+            return true;
+        }
+        i += 1;
+    }
+    false
+}
+
+// The mode that a directive set, else the rule set's.
+fn mode_or(ruleset_mode: RuleEngineMode, setting: ModeSetting) -> RuleEngineMode
+    ensures { λ r. ⌜ r ≡ modeOr «ruleset_mode» setting ⌝ }
+{
+    match setting {
+        ModeSetting::Set(mode) => mode,
+        ModeSetting::Unset => ruleset_mode,
+    }
+}
+
+// Body access is on until set.
+fn access_of(setting: AccessSetting) -> BodyAccess
+    ensures { λ r. ⌜ r ≡ accessOf setting ⌝ }
+{
+    match setting {
+        AccessSetting::Set(access) => access,
+        AccessSetting::Unset => BodyAccess::On,
+    }
+}
+
+impl Controls {
+    // Nothing set.
+    pub fn new() -> Self
+        ensures { λ r. ⌜ New r ⌝ }
+    {
+        Controls {
+            settings: Settings {
+                mode: ModeSetting::Unset,
+                access: AccessSetting::Unset,
+                processor: ProcessorSetting::Unset,
+            },
+            starts: [0; 256],
+            ends: [0; 256],
+            ranges: 0,
+            phases: [0; 64],
+            positions: [0; 64],
+            targets: 0,
+        }
+    }
+
+    // The last mode, body access or processor wins, and no limit refuses one.
+    pub fn set_engine_mode(mut self, mode: RuleEngineMode) -> Self
+        ensures { λ r. ⌜ Became self r (withMode (controlsOf self) mode) ⌝ }
+    {
+        let held = self.settings;
+        let access = held.access;
+        let processor = held.processor;
+        let next = Settings {
+            mode: ModeSetting::Set(mode),
+            access,
+            processor,
+        };
+        self.settings = next;
+        self
+    }
+
+    pub fn set_request_body_access(mut self, access: BodyAccess) -> Self
+        ensures { λ r. ⌜ Became self r (withAccess (controlsOf self) access) ⌝ }
+    {
+        let held = self.settings;
+        let mode = held.mode;
+        let processor = held.processor;
+        let next = Settings {
+            mode,
+            access: AccessSetting::Set(access),
+            processor,
+        };
+        self.settings = next;
+        self
+    }
+
+    pub fn set_request_body_processor(mut self, processor: BodyProcessor) -> Self
+        ensures { λ r. ⌜ Became self r (withProcessor (controlsOf self) processor) ⌝ }
+    {
+        let held = self.settings;
+        let mode = held.mode;
+        let access = held.access;
+        let next = Settings {
+            mode,
+            access,
+            processor: ProcessorSetting::Set(processor),
+        };
+        self.settings = next;
+        self
+    }
+
+    // One range at the end. Refusals 3, 5 (start above end) and 8 (256 are held), in this order.
+    pub fn remove_range(mut self, range: RuleIdRange) -> Changed
+        ensures { λ r. ⌜ Added self r (addRangeAnswer (controlsOf self) range) (withRange (controlsOf self) range) ⌝ }
+    {
+        let at = self.ranges;
+        let targets = self.targets;
+        if is_beyond(at, targets) {
+            return Changed {
+                answer: 3,
+                controls: self,
+            };
+        }
+        if range.end < range.start {
+            return Changed {
+                answer: 5,
+                controls: self,
+            };
+        }
+        if 256 <= at {
+            return Changed {
+                answer: 8,
+                controls: self,
+            };
+        }
+        let after = at + 1;
+        self.starts[at] = range.start;
+        self.ends[at] = range.end;
+        self.ranges = after;
+        Changed {
+            answer: 0,
+            controls: self,
+        }
+    }
+
+    // One target at the end. Refusals 3 and 9 (64 are held).
+    pub fn remove_target(mut self, at: Place) -> Changed
+        ensures { λ r. ⌜ Added self r (addTargetAnswer (controlsOf self)) (withTarget (controlsOf self) at) ⌝ }
+    {
+        let ranges = self.ranges;
+        let next = self.targets;
+        if is_beyond(ranges, next) {
+            return Changed {
+                answer: 3,
+                controls: self,
+            };
+        }
+        if 64 <= next {
+            return Changed {
+                answer: 9,
+                controls: self,
+            };
+        }
+        let after = next + 1;
+        self.phases[next] = at.phase;
+        self.positions[next] = at.position;
+        self.targets = after;
+        Changed {
+            answer: 0,
+            controls: self,
+        }
+    }
+
+    // The mode set last, else the rule set's.
+    pub fn engine_mode(self, ruleset_mode: RuleEngineMode) -> ModeAnswer
+        ensures { λ r. ⌜ Answered (r .answer) (r .mode) (askMode «ruleset_mode» (controlsOf self)) ⌝ }
+    {
+        if is_beyond(self.ranges, self.targets) {
+            return ModeAnswer {
+                answer: 3,
+                mode: ruleset_mode,
+            };
+        }
+        let held = self.settings;
+        let setting = held.mode;
+        let mode = mode_or(ruleset_mode, setting);
+        ModeAnswer { answer: 0, mode }
+    }
+
+    // Whether a rule of this id, or of none, is removed.
+    pub fn is_rule_removed(self, id: OptionU64) -> RemovedAnswer
+        ensures { λ r. ⌜ Answered (r .answer) (r .removed) (askRemoved (controlsOf self) id) ⌝ }
+    {
+        let ranges = self.ranges;
+        let targets = self.targets;
+        if is_beyond(ranges, targets) {
+            return RemovedAnswer {
+                answer: 3,
+                removed: false,
+            };
+        }
+        let removed = is_removed(&self.starts, &self.ends, ranges, id);
+        RemovedAnswer { answer: 0, removed }
+    }
+
+    pub fn target_count(self) -> CountAnswer
+        ensures { λ r. ⌜ Answered (r .answer) (r .count) (askTargetCount (controlsOf self)) ⌝ }
+    {
+        let targets = self.targets;
+        if is_beyond(self.ranges, targets) {
+            return CountAnswer {
+                answer: 3,
+                count: 0,
+            };
+        }
+        CountAnswer {
+            answer: 0,
+            count: targets,
+        }
+    }
+
+    // The target at a place of the list, counted from 0, or none behind its end.
+    pub fn target(self, at: usize) -> TargetAnswer
+        ensures { λ r. ⌜ Answered (r .answer) (r .target) (askTarget (controlsOf self) at) ⌝ }
+    {
+        let targets = self.targets;
+        if is_beyond(self.ranges, targets) {
+            return TargetAnswer {
+                answer: 3,
+                target: OptionPlace::None,
+            };
+        }
+        if targets <= at {
+            return TargetAnswer {
+                answer: 0,
+                target: OptionPlace::None,
+            };
+        }
+        let place = Place {
+            phase: self.phases[at],
+            position: self.positions[at],
+        };
+        TargetAnswer {
+            answer: 0,
+            target: OptionPlace::Some(place),
+        }
+    }
+
+    pub fn request_body_access(self) -> AccessAnswer
+        ensures { λ r. ⌜ Answered (r .answer) (r .access) (askAccess (controlsOf self)) ⌝ }
+    {
+        if is_beyond(self.ranges, self.targets) {
+            return AccessAnswer {
+                answer: 3,
+                access: BodyAccess::On,
+            };
+        }
+        let held = self.settings;
+        let setting = held.access;
+        let access = access_of(setting);
+        AccessAnswer { answer: 0, access }
+    }
+
+    // The processor that a directive set, if any.
+    pub fn request_body_processor(self) -> ProcessorAnswer
+        ensures { λ r. ⌜ Answered (r .answer) (r .processor) (askProcessor (controlsOf self)) ⌝ }
+    {
+        if is_beyond(self.ranges, self.targets) {
+            return ProcessorAnswer {
+                answer: 3,
+                processor: ProcessorSetting::Unset,
+            };
+        }
+        let held = self.settings;
+        let setting = held.processor;
+        ProcessorAnswer {
+            answer: 0,
+            processor: setting,
+        }
+    }
+}
