@@ -1,5 +1,5 @@
 -- Which kinds are in which slot.
-use Prim.Native.Nat.{ℕ, _+_, _-_, _≤_, _<_}
+use Prim.Native.Nat.{ℕ, _≤_, _<_}
 use mathlib.Core.Path.{_≡_, refl}
 use mathlib.Core.Bool.{Bool, true, false}
 use native.Mathlib.Omega.{arith}
@@ -12,8 +12,8 @@ use Rattle.actions.specs.Slots.{slotOf}
 pub data SlotAt (kind : ℕ) : Type 0 where
   other : kind ≡ 0 → slotOf kind ≡ 0 → SlotAt kind
   disruptive : 0 < kind → kind ≤ 6 → slotOf kind ≡ 1 → SlotAt kind
-  flow : 6 < kind → kind ≤ 10 → slotOf kind ≡ 2 → SlotAt kind
-  metadata : 10 < kind → kind ≤ 18 → slotOf kind ≡ kind - 8 → SlotAt kind
+  flow : 6 < kind → kind ≤ 10 → slotOf kind ≡ 7 → SlotAt kind
+  metadata : 10 < kind → kind ≤ 18 → slotOf kind ≡ kind → SlotAt kind
   behind : 18 < kind → slotOf kind ≡ 0 → SlotAt kind
 
 pub slot-at : (kind : ℕ) → SlotAt kind
@@ -40,10 +40,10 @@ slot-at kind = zeroth (eqb kind 0) refl
         positive : (kind ≡ 0 → ⊥) → 0 < kind
         positive z = omega arith
 
-pub slot-below : (kind s : ℕ) → s ≡ slotOf kind → s < 11
+pub slot-below : (kind s : ℕ) → s ≡ slotOf kind → s < 19
 slot-below kind s is = go (slot-at kind)
   where
-    go : SlotAt kind → s < 11
+    go : SlotAt kind → s < 19
     go (other h e) = omega arith
     go (disruptive h k e) = omega arith
     go (flow h k e) = omega arith
@@ -57,17 +57,17 @@ slot-disruptive kind = go (slot-at kind)
     go (other h e) = simp (e, lt-leb 1 kind (omega arith))
     go (disruptive h k e) = simp (e, le-leb 1 kind h, le-leb kind 6 k)
     go (flow h k e) = simp (e, le-leb 1 kind (omega arith), lt-leb kind 6 h)
-    go (metadata h k e) = simp (e, ne-eqb (kind - 8) 1 (λ z. omega arith), le-leb 1 kind (omega arith), lt-leb kind 6 (omega arith))
+    go (metadata h k e) = simp (e, ne-eqb kind 1 (λ z. omega arith), le-leb 1 kind (omega arith), lt-leb kind 6 (omega arith))
     go (behind h e) = simp (e, le-leb 1 kind (omega arith), lt-leb kind 6 (omega arith))
 
-pub slot-flow : (kind : ℕ) → eqb (slotOf kind) 2 ≡ isFlow kind
+pub slot-flow : (kind : ℕ) → eqb (slotOf kind) 7 ≡ isFlow kind
 slot-flow kind = go (slot-at kind)
   where
-    go : SlotAt kind → eqb (slotOf kind) 2 ≡ isFlow kind
+    go : SlotAt kind → eqb (slotOf kind) 7 ≡ isFlow kind
     go (other h e) = simp (e, lt-leb 7 kind (omega arith))
     go (disruptive h k e) = simp (e, lt-leb 7 kind (omega arith))
     go (flow h k e) = simp (e, le-leb 7 kind h, le-leb kind 10 k)
-    go (metadata h k e) = simp (e, ne-eqb (kind - 8) 2 (λ z. omega arith), le-leb 7 kind (omega arith), lt-leb kind 10 h)
+    go (metadata h k e) = simp (e, ne-eqb kind 7 (λ z. omega arith), le-leb 7 kind (omega arith), lt-leb kind 10 h)
     go (behind h e) = simp (e, le-leb 7 kind (omega arith), lt-leb kind 10 (omega arith))
 
 -- two tests for equality agree where each follows from the other
@@ -78,18 +78,18 @@ eqb-same a b c d there back = go (eqb a b) refl
     go true e = simp (e, eq-eqb c d (there (eqb-true a b e)))
     go false e = simp (e, ne-eqb c d (λ z. eqb-false a b e (back z)))
 
--- slots 3 to 10 have the kinds 11 to 18, one each
-pub slot-metadata : (s kind : ℕ) → 2 < s → s < 11 → eqb (slotOf kind) s ≡ eqb (s + 8) kind
-slot-metadata s kind low high = eqb-same (slotOf kind) s (s + 8) kind (there (slot-at kind)) (back (slot-at kind))
+-- each metadata kind has a slot of its own
+pub slot-metadata : (s kind : ℕ) → 10 < s → s < 19 → eqb (slotOf kind) s ≡ eqb s kind
+slot-metadata s kind low high = eqb-same (slotOf kind) s s kind (there (slot-at kind)) (back (slot-at kind))
   where
-    there : SlotAt kind → slotOf kind ≡ s → s + 8 ≡ kind
+    there : SlotAt kind → slotOf kind ≡ s → s ≡ kind
     there (other h e) z = absurd (omega arith)
     there (disruptive h k e) z = absurd (omega arith)
     there (flow h k e) z = absurd (omega arith)
     there (metadata h k e) z = omega arith
     there (behind h e) z = absurd (omega arith)
 
-    back : SlotAt kind → s + 8 ≡ kind → slotOf kind ≡ s
+    back : SlotAt kind → s ≡ kind → slotOf kind ≡ s
     back (other h e) z = absurd (omega arith)
     back (disruptive h k e) z = absurd (omega arith)
     back (flow h k e) z = absurd (omega arith)

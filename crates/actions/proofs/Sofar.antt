@@ -1,5 +1,5 @@
 -- What the loop over a rule's actions keeps.
-use Prim.Native.Nat.{ℕ, suc, _+_, _-_, _≤_, _<_, _/_, _*_, min}
+use Prim.Native.Nat.{ℕ, _+_, _-_, _≤_, _<_, _/_, _*_, min}
 use mathlib.Core.Path.{_≡_, refl, sym, ap, subst, _∙_}
 use mathlib.Core.Bool.{Bool, true, false, cond}
 use mathlib.Core.List.{List, [], _∷_, _++_, append-nil, map-append}
@@ -7,7 +7,7 @@ use native.Mathlib.Omega.{arith}
 use lib.Dec.{eqb}
 use lib.ListN.{length, getD, set, replicate, length-append, length-map}
 use Rattle.reading.specs.declared.Action.{Action}
-use Rattle.reading.specs.Lists.{keep, over}
+use Rattle.reading.specs.Lists.{keep}
 use Rattle.reading.specs.declared.Rule.{Rule}
 use Rattle.reading.specs.Actions.{Placed, actionsOf, kindOf, disruptiveBy, flowBy, controlsIn}
 use Rattle.reading.specs.Records.{actionList}
@@ -25,7 +25,7 @@ pub record Sofar (actions : List Action) (found : List ℕ) (done : List Placed)
   pub count : n ≡ length (controlsIn done)
   pub positions : controls ≡ fitting found (positionsOf (controlsIn done))
 
-pub sofar-none : (actions : List Action) (found : List ℕ) (first : ℕ) → Sofar actions found (upTo actions first first) (replicate 11 0) found 0
+pub sofar-none : (actions : List Action) (found : List ℕ) (first : ℕ) → Sofar actions found (upTo actions first first) (replicate 19 0) found 0
 sofar-none actions found first =
     rw (up-to-none actions first) (record { marks = marks-none actions; count = refl; positions = sym (fitting-none found) })
 
@@ -34,7 +34,8 @@ pub sofar-length : {actions : List Action} {found : List ℕ} {done : List Place
 sofar-length {found = found} {done = done} so = ap length (so .positions) ∙ length-fitting found (positionsOf (controlsIn done))
 
 -- one action more, by what the calls of a turn gave: s is its slot, controls′ the list after it and m how many it adds
-pub sofar-more : (actions : List Action) (found : List ℕ) (done : List Placed) (last controls : List ℕ) (n i s : ℕ) (controls′ : List ℕ) (m : ℕ)
+pub sofar-more : (actions : List Action) (found : List ℕ) (done : List Placed) (last controls : List ℕ) (n i s : ℕ)
+    (controls′ : List ℕ) (m : ℕ)
     → s ≡ slotOf (kindOf (placedAt actions i))
     → controls′ ≡ cond (eqb (kindOf (placedAt actions i)) 19) (set controls n i) controls
     → m ≡ cond (eqb (kindOf (placedAt actions i)) 19) 1 0
@@ -96,7 +97,7 @@ sofar-turn words found first i last controls n s controls′ m low high slot put
 pub sofar-end : (words found : List ℕ) (rule : Rule) (phase i : ℕ) (last controls : List ℕ) (r : RuleActions)
     → i ≡ rule .first + min (rule .count) (length words / 6 - rule .first)
     → r .disruptive ≡ disruptiveBy (marked (actionList words) (getD last 1 0))
-    → r .flow ≡ flowBy (marked (actionList words) (getD last 2 0))
+    → r .flow ≡ flowBy (marked (actionList words) (getD last 7 0))
     → r .metadata ≡ markedMetadata (actionList words) phase last
     → Sofar (actionList words) found (upTo (actionList words) (rule .first) i) last controls (r .controls)
     → Executed (actionsOf (actionList words) rule) phase found r controls

@@ -14,11 +14,11 @@ ghost use mathlib.Core.Path.{_≡_};
 ghost use mathlib.Core.Bool.{cond};
 ghost use lib.Dec.{eqb};
 ghost use lib.ListN.{getD, set};
-ghost use Rattle.reading.specs.Actions.{actionsOf, disruptiveBy, flowBy, numberIn, placeIn};
+ghost use Rattle.reading.specs.Actions.{actionsOf, disruptiveBy, flowBy, numberIn};
 ghost use Rattle.reading.specs.Records.{actionList};
 ghost use Rattle.reading.specs.Walk.{noAction};
 ghost use Rattle.actions.specs.Executed.{Executed};
-ghost use Rattle.actions.specs.Slots.{slotOf, marked, markedMetadata};
+ghost use Rattle.actions.specs.Slots.{slotOf, marked, markedPlace, markedMetadata};
 
 // The action at an index, all zeros where there is none.
 pub fn action_at(actions: &[u64], index: usize) -> Action
@@ -50,7 +50,8 @@ pub fn action_at(actions: &[u64], index: usize) -> Action
     }
 }
 
-// The slot that an action's kind is kept in; what is kept in slot 0 is never read.
+// The slot that keeps the last action of a kind: one for all disruptive kinds, one for all flow
+// kinds, one for each kind of metadata. What slot 0 keeps is never read.
 fn slot(kind: u64) -> usize
     ensures { λ r. ⌜ r ≡ slotOf kind ⌝ }
 {
@@ -61,15 +62,15 @@ fn slot(kind: u64) -> usize
         return 1;
     }
     if kind <= 10 {
-        return 2;
+        return 7;
     }
     if kind <= 18 {
-        return (kind - 8) as usize;
+        return kind as usize;
     }
     0
 }
 
-// How many control actions an action of a kind is: 19 is ctl.
+// 1 for a control action (19, ctl), else 0.
 fn control_count(kind: u64) -> usize
     ensures { λ r. ⌜ (r ≡ cond (eqb kind 19) 1 0) × (r ≤ 1) ⌝ }
 {
@@ -79,7 +80,7 @@ fn control_count(kind: u64) -> usize
     0
 }
 
-// Writes the position of a control action at index `n`, if it is one and there is such an index.
+// Writes an action's position at index `n`, if it is a control action and there is such an index.
 fn put_control(kind: u64, position: u64, n: usize, controls: &mut [u64])
     ensures { λ _. ⌜ now (controls .exit) ≡ cond (eqb kind 19) (set (now (controls .entry)) n position) (now (controls .entry)) ⌝ }
 {
@@ -91,7 +92,8 @@ fn put_control(kind: u64, position: u64, n: usize, controls: &mut [u64])
     }
 }
 
-// The index behind a rule's last action, where the list has `n`.
+// The index behind a rule's last action in a list of `n`: a rule that points outside the list has
+// those of its actions that are there.
 fn actions_end(n: usize, first: usize, count: usize) -> usize
     ensures { λ r. ⌜ r ≡ first + min count (n - first) ⌝ }
 {
@@ -104,7 +106,8 @@ fn actions_end(n: usize, first: usize, count: usize) -> usize
     first + count
 }
 
-// What the action that a mark stands for comes to as the last disruptive action.
+// A mark is 0 for no action, else one more than an action's position.
+// The outcome of the disruptive action that a mark stands for.
 fn disruptive_at(actions: &[u64], mark: u64) -> DisruptiveOutcome
     ensures { λ r. ⌜ r ≡ disruptiveBy (marked (actionList (now (actions .entry))) mark) ⌝ }
 {
@@ -131,7 +134,7 @@ fn disruptive_at(actions: &[u64], mark: u64) -> DisruptiveOutcome
     DisruptiveOutcome::Drop
 }
 
-// The same as the last flow action. 10, multiMatch, goes on as none does.
+// The outcome of the flow action that a mark stands for. 10 (multiMatch) gives none.
 fn flow_at(actions: &[u64], mark: u64) -> FlowOutcome
     ensures { λ r. ⌜ r ≡ flowBy (marked (actionList (now (actions .entry))) mark) ⌝ }
 {
@@ -165,8 +168,8 @@ fn number_at(actions: &[u64], mark: u64) -> OptionU64
 }
 
 // The place of the action that a mark stands for.
-fn place_at(actions: &[u64], phase: u64, mark: u64) -> OptionPlace
-    ensures { λ r. ⌜ r ≡ placeIn phase (marked (actionList (now (actions .entry))) mark) ⌝ }
+fn place_at(phase: u64, mark: u64) -> OptionPlace
+    ensures { λ r. ⌜ r ≡ markedPlace phase mark ⌝ }
 {
     if mark == 0 {
         return OptionPlace::None;
@@ -178,17 +181,17 @@ fn place_at(actions: &[u64], phase: u64, mark: u64) -> OptionPlace
 }
 
 // The metadata from the marks of its eight slots.
-fn metadata_at(actions: &[u64], phase: u64, last: [u64; 11]) -> RuleMetadata
+fn metadata_at(actions: &[u64], phase: u64, last: [u64; 19]) -> RuleMetadata
     ensures { λ r. ⌜ r ≡ markedMetadata (actionList (now (actions .entry))) phase last ⌝ }
 {
-    let id = number_at(actions, last[3]);
-    let msg = place_at(actions, phase, last[4]);
-    let logdata = place_at(actions, phase, last[5]);
-    let rev = place_at(actions, phase, last[6]);
-    let ver = place_at(actions, phase, last[7]);
-    let severity = number_at(actions, last[8]);
-    let maturity = number_at(actions, last[9]);
-    let accuracy = number_at(actions, last[10]);
+    let id = number_at(actions, last[11]);
+    let msg = place_at(phase, last[12]);
+    let logdata = place_at(phase, last[13]);
+    let rev = place_at(phase, last[14]);
+    let ver = place_at(phase, last[15]);
+    let severity = number_at(actions, last[16]);
+    let maturity = number_at(actions, last[17]);
+    let accuracy = number_at(actions, last[18]);
     RuleMetadata {
         id,
         msg,
@@ -209,14 +212,15 @@ pub struct RuleActions {
     pub controls: usize,
 }
 
-// Goes once over a rule's actions. The positions of its control actions are written from the start of `controls`, as many
-// as fit.
+// One pass over a rule's actions. The last disruptive action and the last flow action win, and
+// metadata keeps the last of each kind. The positions of the control actions are written from the
+// start of `controls`, as many as fit.
 pub fn execute_actions(actions: &[u64], rule: Rule, phase: u64, controls: &mut [u64]) -> RuleActions
     ensures { λ r. ⌜ Executed (actionsOf (actionList (now (actions .entry))) rule) phase (now (controls .entry)) r (now (controls .exit)) ⌝ }
 {
     let first = rule.first as usize;
     let end = actions_end(actions.len() / 6, first, rule.count as usize);
-    let mut last = [0u64; 11];
+    let mut last = [0u64; 19];
     let mut n = 0;
     let mut i = first;
     while i < end {
@@ -228,7 +232,7 @@ pub fn execute_actions(actions: &[u64], rule: Rule, phase: u64, controls: &mut [
         i += 1;
     }
     let disruptive = disruptive_at(actions, last[1]);
-    let flow = flow_at(actions, last[2]);
+    let flow = flow_at(actions, last[7]);
     let metadata = metadata_at(actions, phase, last);
     RuleActions {
         disruptive,

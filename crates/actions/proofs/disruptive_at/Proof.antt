@@ -1,9 +1,7 @@
+-- `actions::disruptive_at` meets its contract: each return by the tests on the kind that led there.
 use borrow.Author.Needs.{needs}
-use Prim.Native.Nat.{ℕ, suc, _+_, _-_, _≤_, _<_}
-use mathlib.Core.Path.{_≡_, refl, sym, ap, _∙_}
-use native.Mathlib.Omega.{arith}
-use native.Mathlib.Numerals.{add-one}
-use lib.ListN.{length, take, drop, getD}
+use Prim.Native.Nat.{_-_}
+use mathlib.Core.Path.{_≡_}
 use borrow.Author.Tests.{eq-eqb, ne-eqb}
 use mathlib.Core.Option.{some}
 use Rattle.reading.specs.Records.{actionList}
@@ -11,9 +9,6 @@ use Rattle.actions.specs.Slots.{marked}
 use Rattle.actions.proofs.MarkLaws.{marked-read}
 use Rattle.actions.proofs.disruptive_at.Statement.{statement}
 use Rattle.actions.proofs.disruptive_at.Tie as tie
-use Rattle.actions.proofs.disruptive_at.Reads as reads
-use Rattle.actions.proofs.disruptive_at.Lts as lts
-use Rattle.actions.proofs.action_at.Reads as action-at-reads
 
 -- the action that the mark stands for, as it was read
 read : (c : tie.After-action-at)
@@ -21,41 +16,75 @@ read : (c : tie.After-action-at)
     ≡ some (record { position = c .before .before .before .args .mark - 1; action = c .action-at .result })
 read c = marked-read _ (c .before .before .before .args .mark) _ (c .before .if1 .left) (c .action-at .ensures)
 
--- src/lib.rt:112:9
 returns : tie.Need-returns
 returns c = search needs
 
--- src/lib.rt:114:20
 sub-position : tie.Need-sub-position
 sub-position c = search needs
 
--- src/lib.rt:115:16
 action-at-requires : tie.Need-action-at-requires
 action-at-requires c κs = search needs
 
--- src/lib.rt:117:9
 returns-2 : tie.Need-returns-2
-returns-2 c = rw (read (c .before)) (simp (eq-eqb (c .before .action-at .result .kind) 1 (c .if2 .taken)))
+returns-2 c =
+    let k = c .before .action-at .result .kind in
+    rw (read (c .before))
+    (simp
+    (eq-eqb k 1 (c .if2 .taken)))
 
--- src/lib.rt:120:9
 returns-3 : tie.Need-returns-3
-returns-3 c = rw (read (c .before .before)) (simp (ne-eqb (c .before .before .action-at .result .kind) 1 (c .before .if2 .left), eq-eqb (c .before .before .action-at .result .kind) 2 (c .if3 .taken)))
+returns-3 c =
+    let k = c .before .before .action-at .result .kind in
+    rw (read (c .before .before))
+    (simp (
+      ne-eqb k 1 (c .before .if2 .left),
+      eq-eqb k 2 (c .if3 .taken),
+    ))
 
--- src/lib.rt:123:9
 returns-4 : tie.Need-returns-4
-returns-4 c = rw (read (c .before .before .before)) (simp (ne-eqb (c .before .before .before .action-at .result .kind) 1 (c .before .before .if2 .left), ne-eqb (c .before .before .before .action-at .result .kind) 2 (c .before .if3 .left), eq-eqb (c .before .before .before .action-at .result .kind) 3 (c .if4 .taken)))
+returns-4 c =
+    let k = c .before .before .before .action-at .result .kind in
+    rw (read (c .before .before .before))
+    (simp (
+      ne-eqb k 1 (c .before .before .if2 .left),
+      ne-eqb k 2 (c .before .if3 .left),
+      eq-eqb k 3 (c .if4 .taken),
+    ))
 
--- src/lib.rt:126:9
 returns-5 : tie.Need-returns-5
-returns-5 c = rw (read (c .before .before .before .before)) (simp (ne-eqb (c .before .before .before .before .action-at .result .kind) 1 (c .before .before .before .if2 .left), ne-eqb (c .before .before .before .before .action-at .result .kind) 2 (c .before .before .if3 .left), ne-eqb (c .before .before .before .before .action-at .result .kind) 3 (c .before .if4 .left), eq-eqb (c .before .before .before .before .action-at .result .kind) 4 (c .if5 .taken)))
+returns-5 c =
+    let k = c .before .before .before .before .action-at .result .kind in
+    rw (read (c .before .before .before .before))
+    (simp (
+      ne-eqb k 1 (c .before .before .before .if2 .left),
+      ne-eqb k 2 (c .before .before .if3 .left),
+      ne-eqb k 3 (c .before .if4 .left),
+      eq-eqb k 4 (c .if5 .taken),
+    ))
 
--- src/lib.rt:129:9
 returns-6 : tie.Need-returns-6
-returns-6 c = rw (read (c .before .before .before .before .before)) (simp (ne-eqb (c .before .before .before .before .before .action-at .result .kind) 1 (c .before .before .before .before .if2 .left), ne-eqb (c .before .before .before .before .before .action-at .result .kind) 2 (c .before .before .before .if3 .left), ne-eqb (c .before .before .before .before .before .action-at .result .kind) 3 (c .before .before .if4 .left), ne-eqb (c .before .before .before .before .before .action-at .result .kind) 4 (c .before .if5 .left), eq-eqb (c .before .before .before .before .before .action-at .result .kind) 5 (c .if6 .taken)))
+returns-6 c =
+    let k = c .before .before .before .before .before .action-at .result .kind in
+    rw (read (c .before .before .before .before .before))
+    (simp (
+      ne-eqb k 1 (c .before .before .before .before .if2 .left),
+      ne-eqb k 2 (c .before .before .before .if3 .left),
+      ne-eqb k 3 (c .before .before .if4 .left),
+      ne-eqb k 4 (c .before .if5 .left),
+      eq-eqb k 5 (c .if6 .taken),
+    ))
 
--- src/lib.rt:108:1
 returns-7 : tie.Need-returns-7
-returns-7 c = rw (read (c .before .before .before .before .before)) (simp (ne-eqb (c .before .before .before .before .before .action-at .result .kind) 1 (c .before .before .before .before .if2 .left), ne-eqb (c .before .before .before .before .before .action-at .result .kind) 2 (c .before .before .before .if3 .left), ne-eqb (c .before .before .before .before .before .action-at .result .kind) 3 (c .before .before .if4 .left), ne-eqb (c .before .before .before .before .before .action-at .result .kind) 4 (c .before .if5 .left), ne-eqb (c .before .before .before .before .before .action-at .result .kind) 5 (c .if6 .left)))
+returns-7 c =
+    let k = c .before .before .before .before .before .action-at .result .kind in
+    rw (read (c .before .before .before .before .before))
+    (simp (
+      ne-eqb k 1 (c .before .before .before .before .if2 .left),
+      ne-eqb k 2 (c .before .before .before .if3 .left),
+      ne-eqb k 3 (c .before .before .if4 .left),
+      ne-eqb k 4 (c .before .if5 .left),
+      ne-eqb k 5 (c .if6 .left),
+    ))
 
 pub disruptive-at-spec : {M : Type 1} → statement M
 disruptive-at-spec =
