@@ -7,11 +7,12 @@ use Rattle.reading.specs.Lists.{over}
 use Rattle.reading.specs.Actions.{Placed, lastDisruptive, lastFlow, metadataOf, controlsIn}
 use Rattle.actions.specs.declared.RuleActions.{RuleActions}
 
+-- where placed actions stand in the whole lent action list
 abbrev pub positionsOf : List Placed → List ℕ
 positionsOf ps = map (λ p. p .position) ps
 
--- Of a rule with the actions `ps`: what is answered, and the list `found` of positions as it is left. The positions of the
--- control actions stand at its start in their order, as many as fit, and the rest is as found.
+-- Of a rule with the actions `ps`: what is answered, and what is left of the lent list `found`. The positions of the control
+-- actions stand at its start in their order, as many as fit, and the rest is as found.
 pub record Executed (ps : List Placed) (phase : ℕ) (found : List ℕ) (r : RuleActions) (left : List ℕ) : Type 0 where
   pub disruptive : r .disruptive ≡ lastDisruptive ps
   pub flow : r .flow ≡ lastFlow ps

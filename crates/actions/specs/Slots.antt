@@ -1,5 +1,4 @@
--- How the loop keeps the last action of each sort: a list of marks, one to a slot. Only the private functions' contracts
--- cite this.
+-- How the last action of each sort is kept: a list of marks, one to a slot. Only private functions cite this.
 use Prim.Native.Nat.{ℕ, zero, suc}
 use mathlib.Core.Bool.{cond}
 use mathlib.Core.List.{List}

@@ -52,7 +52,16 @@ number-at-requires-4 : tie.Need-number-at-requires-4
 number-at-requires-4 c κs = search needs
 
 returns : tie.Need-returns
-returns c = cc
+returns c = λ i. record {
+  id = c .before .before .before .before .before .before .before .number-at .ensures i;
+  msg = c .before .before .before .before .before .before .place-at .ensures i;
+  logdata = c .before .before .before .before .before .place-at2 .ensures i;
+  rev = c .before .before .before .before .place-at3 .ensures i;
+  ver = c .before .before .before .place-at4 .ensures i;
+  severity = c .before .before .number-at2 .ensures i;
+  maturity = c .before .number-at3 .ensures i;
+  accuracy = c .number-at4 .ensures i;
+}
 
 pub metadata-at-spec : {M : Type 1} → statement M
 metadata-at-spec =
