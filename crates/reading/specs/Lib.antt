@@ -4,6 +4,7 @@ pub mod Directive
 pub mod Numbers
 pub mod Controls
 pub mod Actions
+pub mod Records
 pub mod Markers
 pub mod Reading
 pub mod Call
