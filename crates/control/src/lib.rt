@@ -325,7 +325,7 @@ impl Controls {
     }
 
     // The target at a place of the list, counted from 0, or none behind its end.
-    pub fn target(self, at: usize) -> TargetAnswer
+    pub fn target_at(self, at: usize) -> TargetAnswer
         ensures { λ r. ⌜ Answered (r .answer) (r .target) (askTarget (controlsOf self) at) ⌝ }
     {
         let targets = self.targets;

@@ -26,7 +26,7 @@ fn ids_around(t: &[u8], k: usize) -> IdPart
         return IdPart::Bad;
     };
     if end < start {
-        return IdPart::Bad;
+        return IdPart::Bad; // start above end
     }
     IdPart::Range(RuleIdRange { start, end })
 }
