@@ -6,14 +6,17 @@ use mathlib.Core.Logic.{_⊎_, ⊎-elim, inl, inr}
 use mathlib.Core.List.{List, [], _∷_, map}
 use native.Mathlib.Omega.{arith}
 use borrow.Author.Tests.{lt-ltb, le-ltb}
-use lib.Dec.{eqb}
+use lib.Dec.{ltb, eqb}
 use lib.ListN.{length, take}
 use lib.Seq.{take-all}
 use Rattle.reading.specs.declared.RuleIdRange.{RuleIdRange}
 use Rattle.reading.specs.declared.CtlDirective.{CtlDirective}
 use Rattle.reading.specs.Lists.{any, over}
 use Rattle.reading.specs.Text.{same, ascii, trim, fold, holdsByte, cutBefore, cutBehind, idParts, anyBad, rangesIn}
-use Rattle.reading.specs.Directive.{Directive, ruleEngine, ruleRemoveById, ruleRemoveTargetById, requestBodyAccess, requestBodyProcessor, unsupported, engineValue, accessValue, processorValue, removalValue, targetValue, directiveNamed, directiveOf, rangesOf, isHigh, readerAnswer, withoutLists, startOf, endOf, ReaderOutcome, readerOutcome}
+use Rattle.reading.specs.Directive.{Directive, ruleEngine, ruleRemoveById, ruleRemoveTargetById, requestBodyAccess}
+use Rattle.reading.specs.Directive.{requestBodyProcessor, unsupported, engineValue, accessValue, processorValue, removalValue}
+use Rattle.reading.specs.Directive.{targetValue, directiveNamed, directiveOf, rangesOf, isHigh, readerAnswer, withoutLists, startOf}
+use Rattle.reading.specs.Directive.{endOf, ReaderOutcome, readerOutcome}
 use Rattle.ranges.specs.Ranges.{allFitting, Written}
 use Rattle.directive.specs.Reader.{rangesCounted}
 
@@ -76,6 +79,53 @@ over-none : (rs : List RuleIdRange) (g : RuleIdRange → ℕ) (l : List ℕ) →
 over-none [] g l z = refl
 over-none (r ∷ rs) g l z = absurd (omega arith)
 
+-- the tests on the two texts, passed
+pub record TextsPass (name value : List ℕ) : Type 0 where
+  pub name-short : length name ≤ 65536
+  pub value-short : length value ≤ 65536
+  pub name-low : any isHigh name ≡ false
+  pub value-low : any isHigh value ≡ false
+
+-- the answer, by the tests in their order
+module _ (name value : List ℕ) (room : ℕ) where
+  pub name-long : 65536 < length name → readerAnswer name value room ≡ 2
+  unfolding readerAnswer
+  name-long h = rw (lt-ltb 65536 (length name) h)
+
+  pub value-long : length name ≤ 65536 → 65536 < length value → readerAnswer name value room ≡ 2
+  unfolding readerAnswer
+  value-long a h = rw (le-ltb 65536 (length name) a, lt-ltb 65536 (length value) h)
+
+  pub name-high : length name ≤ 65536 → length value ≤ 65536 → any isHigh name ≡ true → readerAnswer name value room ≡ 6
+  unfolding readerAnswer
+  name-high a b e = rw (le-ltb 65536 (length name) a, le-ltb 65536 (length value) b, e)
+
+  pub value-high : length name ≤ 65536 → length value ≤ 65536 → any isHigh name ≡ false → any isHigh value ≡ true
+      → readerAnswer name value room ≡ 6
+  unfolding readerAnswer
+  value-high a b c e = rw (le-ltb 65536 (length name) a, le-ltb 65536 (length value) b, c, e)
+
+  module _ (p : TextsPass name value) where
+    by-room : readerAnswer name value room ≡ cond (ltb room (length (rangesOf (directiveOf name value)))) 7 0
+    unfolding readerAnswer
+    by-room = rw (
+      le-ltb 65536 (length name) (p .name-short),
+      le-ltb 65536 (length value) (p .value-short),
+      p .name-low,
+      p .value-low,
+    )
+
+    pub too-short : room < length (rangesOf (directiveOf name value)) → readerAnswer name value room ≡ 7
+    too-short h = by-room ∙ simp (lt-ltb room (length (rangesOf (directiveOf name value))) h)
+
+    pub fits : length (rangesOf (directiveOf name value)) ≤ room → readerAnswer name value room ≡ 0
+    fits h = by-room ∙ simp (le-ltb room (length (rangesOf (directiveOf name value))) h)
+
+-- the list of a directive without ranges
+pub unwritten : (name value : List ℕ) (g : RuleIdRange → ℕ) (l : List ℕ) → length (rangesOf (directiveOf name value)) ≡ 0
+    → l ≡ over l (map g (rangesOf (directiveOf name value)))
+unwritten name value g l z = over-none (rangesOf (directiveOf name value)) g l z
+
 -- the outcome of a call, by its answer
 module _ (name value starts ends : List ℕ) where
   abbrev room : ℕ
@@ -91,53 +141,20 @@ module _ (name value starts ends : List ℕ) where
       → d ≡ withoutLists value (directiveOf name value)
       → starts′ ≡ over starts (map startOf (rangesOf (directiveOf name value)))
       → ends′ ≡ over ends (map endOf (rangesOf (directiveOf name value)))
-      → _≡_ {A = ReaderOutcome} (record { answer = 0; directive = d; starts = starts′; ends = ends′ }) (readerOutcome name value starts ends)
+      → _≡_ {A = ReaderOutcome} (record { answer = 0; directive = d; starts = starts′; ends = ends′ })
+      (readerOutcome name value starts ends)
   unfolding readerOutcome
   accepted d starts′ ends′ e p q r = rw e (λ i. record { answer = 0; directive = p i; starts = q i; ends = r i })
 
-  -- the tests in their order
-  pub name-long : 65536 < length name → readerAnswer name value room ≡ 2
-  unfolding readerAnswer
-  name-long h = rw (lt-ltb 65536 (length name) h)
-
-  module _ (a : length name ≤ 65536) where
-    pub value-long : 65536 < length value → readerAnswer name value room ≡ 2
-    unfolding readerAnswer
-    value-long h = rw (le-ltb 65536 (length name) a, lt-ltb 65536 (length value) h)
-
-    module _ (b : length value ≤ 65536) where
-      pub name-high : any isHigh name ≡ true → readerAnswer name value room ≡ 6
-      unfolding readerAnswer
-      name-high e = rw (le-ltb 65536 (length name) a, le-ltb 65536 (length value) b, e)
-
-      module _ (c : any isHigh name ≡ false) where
-        pub value-high : any isHigh value ≡ true → readerAnswer name value room ≡ 6
-        unfolding readerAnswer
-        value-high e = rw (le-ltb 65536 (length name) a, le-ltb 65536 (length value) b, c, e)
-
-        module _ (d : any isHigh value ≡ false) where
-          pub too-short : room < length (rangesOf (directiveOf name value)) → readerAnswer name value room ≡ 7
-          unfolding readerAnswer
-          too-short h =
-              rw (le-ltb 65536 (length name) a, le-ltb 65536 (length value) b, c, d, lt-ltb room (length (rangesOf (directiveOf name value))) h)
-
-          pub fits : length (rangesOf (directiveOf name value)) ≤ room → readerAnswer name value room ≡ 0
-          unfolding readerAnswer
-          fits h =
-              rw (le-ltb 65536 (length name) a, le-ltb 65536 (length value) b, c, d, le-ltb room (length (rangesOf (directiveOf name value))) h)
-
-  -- the lists of a directive without ranges, and those with the ranges written
-  pub unwritten : (g : RuleIdRange → ℕ) (l : List ℕ) → length (rangesOf (directiveOf name value)) ≡ 0
-      → l ≡ over l (map g (rangesOf (directiveOf name value)))
-  unwritten g l z = over-none (rangesOf (directiveOf name value)) g l z
-
+  -- the lists with the ranges written
   module _ (v starts′ ends′ : List ℕ) (ve : v ≡ trim value)
       (n : length (rangesOf (directiveOf name value)) ≡ 0 → ⊥) (h : length (rangesOf (directiveOf name value)) ≤ room)
       (w : Written v starts ends starts′ ends′) where
     all : allFitting v starts ends ≡ rangesOf (directiveOf name value)
     unfolding allFitting
     all =
-        let r : rangesIn (idParts v) ≡ rangesOf (directiveOf name value) = ap (λ (t : List ℕ). rangesIn (idParts t)) ve ∙ sym (ranges-are name value n) in
+        let r : rangesIn (idParts v) ≡ rangesOf (directiveOf name value) = ap (λ (t : List ℕ). rangesIn (idParts t)) ve ∙ sym
+        (ranges-are name value n) in
         ap (take room) r ∙ take-all room (rangesOf (directiveOf name value)) h
 
     pub starts-written : starts′ ≡ over starts (map startOf (rangesOf (directiveOf name value)))

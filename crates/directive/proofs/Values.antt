@@ -9,13 +9,16 @@ use lib.Dec.{ltb, eqb}
 use lib.ListN.{length, take, drop}
 use Rattle.reading.specs.declared.CtlDirective.{CtlDirective}
 use Rattle.reading.specs.Text.{ascii, same, trim, fold, indexOf, holdsByte, cutBefore, cutBehind, idParts, anyBad, rangesIn}
-use Rattle.reading.specs.Directive.{Directive, unsupported, ruleRemoveById, ruleRemoveTargetById, engineValue, accessValue, processorValue, removalValue, targetValue, directiveNamed, directiveOf, isSupported, withoutLists}
+use Rattle.reading.specs.Directive.{Directive, unsupported, ruleRemoveById, ruleRemoveTargetById, engineValue, accessValue}
+use Rattle.reading.specs.Directive.{processorValue, removalValue, targetValue, directiveNamed, directiveOf, isSupported}
+use Rattle.reading.specs.Directive.{withoutLists}
 use Rattle.ranges.specs.declared.RangeCount.{RangeCount}
 use Rattle.ranges.specs.Ranges.{countIn}
 
 -- a removal by its count
 module _ (value lent : List ℕ) where
-  pub removal-none : countIn (removalValue value) ≡ RangeCount.Unsupported → CtlDirective.Unsupported ≡ withoutLists lent (removalValue value)
+  pub removal-none : countIn (removalValue value) ≡ RangeCount.Unsupported → CtlDirective.Unsupported ≡ withoutLists lent
+      (removalValue value)
   removal-none = go (anyBad (idParts value) || eqb (length (rangesIn (idParts value))) 0)
     where
       go : (b : Bool) → countIn (cond b unsupported (ruleRemoveById (rangesIn (idParts value)))) ≡ RangeCount.Unsupported
@@ -23,7 +26,8 @@ module _ (value lent : List ℕ) where
       go true e = refl
       go false e = absurd (let z : _≡_ {A = ℕ} 0 1 = cc in omega arith)
 
-  pub removal-some : (n : ℕ) → countIn (removalValue value) ≡ RangeCount.Ranges n → CtlDirective.RuleRemoveById n ≡ withoutLists lent (removalValue value)
+  pub removal-some : (n : ℕ) → countIn (removalValue value) ≡ RangeCount.Ranges n → CtlDirective.RuleRemoveById n ≡ withoutLists
+      lent (removalValue value)
   removal-some n = go (anyBad (idParts value) || eqb (length (rangesIn (idParts value))) 0)
     where
       go : (b : Bool) → countIn (cond b unsupported (ruleRemoveById (rangesIn (idParts value)))) ≡ RangeCount.Ranges n
@@ -55,17 +59,20 @@ module _ (value : List ℕ) (k : ℕ) (ke : k ≡ indexOf 59 value) where
 module _ (value lent : List ℕ) where
   -- the three outcomes of a target's value
   abbrev sides : (held none : Bool) → Directive
-  sides held none = cond held (cond none unsupported (ruleRemoveTargetById (trim (cutBefore 59 value)) (trim (cutBehind 59 value)))) unsupported
+  sides held none = cond held (cond none unsupported (ruleRemoveTargetById (trim (cutBefore 59 value)) (trim (cutBehind 59 value))))
+      unsupported
 
   pub target-no : isSupported (targetValue value) ≡ false → CtlDirective.Unsupported ≡ withoutLists lent (targetValue value)
   target-no = go (holdsByte 59 value) (eqb (length (trim (cutBefore 59 value))) 0 || eqb (length (trim (cutBehind 59 value))) 0)
     where
-      go : (held none : Bool) → isSupported (sides held none) ≡ false → CtlDirective.Unsupported ≡ withoutLists lent (sides held none)
+      go : (held none : Bool) → isSupported (sides held none) ≡ false → CtlDirective.Unsupported ≡ withoutLists lent
+          (sides held none)
       go false none e = refl
       go true true e = refl
       go true false e = absurd (let z : _≡_ {A = ℕ} 0 1 = cc in omega arith)
 
-  pub target-yes : isSupported (targetValue value) ≡ true → CtlDirective.RuleRemoveTargetById (indexOf 59 lent) ≡ withoutLists lent (targetValue value)
+  pub target-yes : isSupported (targetValue value) ≡ true → CtlDirective.RuleRemoveTargetById (indexOf 59 lent) ≡ withoutLists lent
+      (targetValue value)
   target-yes = go (holdsByte 59 value) (eqb (length (trim (cutBefore 59 value))) 0 || eqb (length (trim (cutBehind 59 value))) 0)
     where
       go : (held none : Bool) → isSupported (sides held none) ≡ true

@@ -22,7 +22,8 @@ unfolding countFrom
 count-start value =
     let rs = rangesIn (idParts value) in
     go (anyBad (idParts value)) (eqb (length rs) 0)
-    ∙ ap (λ (n : ℕ). cond (anyBad (idParts value)) RangeCount.Unsupported (countOf n)) (let z : length rs ≡ 0 + length rs = omega arith in z)
+    ∙ ap (λ (n : ℕ). cond (anyBad (idParts value)) RangeCount.Unsupported (countOf n))
+    (let z : length rs ≡ 0 + length rs = omega arith in z)
   where
     go : (bad none : Bool)
         → countIn (cond (bad || none) unsupported (ruleRemoveById (rangesIn (idParts value))))
@@ -55,13 +56,15 @@ module _ (s : List ℕ) (n at k : ℕ) (part : IdPart)
   is = part-is s at k part ke pe
 
   pub turn-bad : isBad part ≡ true → countFrom n (idParts (drop at s)) ≡ RangeCount.Unsupported
-  turn-bad e = ap (countFrom n) (parts-are s at k part ke pe) ∙ count-bad n (take k (drop at s)) (later 44 (drop at s)) (ap isBad is ∙ e)
+  turn-bad e = ap (countFrom n) (parts-are s at k part ke pe) ∙ count-bad n (take k (drop at s)) (later 44 (drop at s))
+      (ap isBad is ∙ e)
 
   pub turn-last : isBad part ≡ false → length s - at ≤ k → countFrom n (idParts (drop at s)) ≡ countOf (n + length (rangeIn part))
   turn-last e h =
       ap (countFrom n) (parts-last s at k part ke pe h)
       ∙ (count-more n (take k (drop at s)) [] (ap isBad is ∙ e)
-      ∙ (count-none (n + length (rangeIn (idPart (take k (drop at s))))) ∙ ap (λ (q : IdPart). countOf (n + length (rangeIn q))) is))
+      ∙ (count-none (n + length (rangeIn (idPart (take k (drop at s))))) ∙ ap (λ (q : IdPart). countOf (n + length (rangeIn q)))
+      is))
 
   pub turn-more : isBad part ≡ false → k < length s - at
       → countFrom n (idParts (drop at s)) ≡ countFrom (n + length (rangeIn part)) (idParts (drop (at + (k + 1)) s))

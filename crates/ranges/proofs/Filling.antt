@@ -34,7 +34,8 @@ filled-done all old cur k f =
     sym (take-append-drop k cur)
     ∙ (ap (λ (l : List ℕ). l ++ drop k cur) a ∙ (ap (λ (l : List ℕ). all ++ l) (f .rest) ∙ ap (λ (m : ℕ). all ++ drop m old) n))
 
-filled-one : (x : ℕ) (all todo old cur : List ℕ) (k : ℕ) → Filled all (x ∷ todo) old cur k → Filled all todo old (set cur k x) (suc k)
+filled-one : (x : ℕ) (all todo old cur : List ℕ) (k : ℕ) → Filled all (x ∷ todo) old cur k → Filled all todo old (set cur k x)
+    (suc k)
 filled-one x all todo old cur k f =
     let h : k < length cur = omega (arith, f .room) in
     let a : drop (suc k) (set cur k x) ≡ drop (suc k) cur = drop-set-lt (suc k) cur k x (omega arith) in
@@ -47,7 +48,8 @@ filled-one x all todo old cur k f =
     }
 
 -- the entries vs put at k
-pub filled-put : (vs all todo old cur : List ℕ) (k : ℕ) → Filled all (vs ++ todo) old cur k → Filled all todo old (sets cur k vs) (k + length vs)
+pub filled-put : (vs all todo old cur : List ℕ) (k : ℕ) → Filled all (vs ++ todo) old cur k → Filled all todo old (sets cur k vs)
+    (k + length vs)
 filled-put [] all todo old cur k f = let z : k + 0 ≡ k = omega arith in rw z f
 filled-put (x ∷ vs) all todo old cur k f =
     let z : k + suc (length vs) ≡ suc k + length vs = omega arith in
@@ -76,7 +78,8 @@ take-fit room k part rest = go part (ltb k room) refl
         let w : room - (k + 0) ≡ 0 = omega (arith, ltb-false k room e) in
         rw (z, w)
 
-    go : (p : IdPart) (t : Bool) → ltb k room ≡ t → take (room - k) (rangeIn p ++ rest) ≡ keep t (rangeIn p) ++ take (room - (k + length (keep t (rangeIn p)))) rest
+    go : (p : IdPart) (t : Bool) → ltb k room ≡ t → take (room - k) (rangeIn p ++ rest) ≡ keep t (rangeIn p) ++ take
+        (room - (k + length (keep t (rangeIn p)))) rest
     go IdPart.Blank t e = none t
     go IdPart.Bad t e = none t
     go (IdPart.Range r) t e = one r t e
@@ -102,7 +105,8 @@ module _ (g : RuleIdRange → ℕ) (room : ℕ) (s old : List ℕ) where
       (put : cur′ ≡ sets cur k (map g (fit room k part))) (next : k′ ≡ k + length (fit room k part)) where
     -- what is put, and what is left for the parts ps behind it
     todo : (ps : List (List ℕ)) → idParts (drop at s) ≡ take e (drop at s) ∷ ps
-        → map g (take (room - k) (rangesIn (idParts (drop at s)))) ≡ map g (fit room k part) ++ map g (take (room - k′) (rangesIn ps))
+        → map g (take (room - k) (rangesIn (idParts (drop at s)))) ≡ map g (fit room k part) ++ map g
+        (take (room - k′) (rangesIn ps))
     unfolding rangesIn
     todo ps d =
         let a : rangesIn (idParts (drop at s)) ≡ rangeIn part ++ rangesIn ps

@@ -32,7 +32,8 @@ split-first b (x ∷ xs) = go (eqb x b) (split-first b xs)
     go true ih = ap (λ (t : Bool). [] ∷ keep t (splitOn b xs)) (sym (lt-ltb 0 (suc (length xs)) (omega arith)))
     go false ih =
         ap (onFirst x) ih
-        ∙ ap (λ (t : Bool). (x ∷ take (indexOf b xs) xs) ∷ keep t (splitOn b (drop (suc (indexOf b xs)) xs))) (sym (leb·suc-suc (suc (indexOf b xs)) (length xs)))
+        ∙ ap (λ (t : Bool). (x ∷ take (indexOf b xs) xs) ∷ keep t (splitOn b (drop (suc (indexOf b xs)) xs)))
+        (sym (leb·suc-suc (suc (indexOf b xs)) (length xs)))
 
 -- a turn of a loop over the parts: the rest from index `at` on is lent, its first comma stands at k, and `part` is what the
 -- bytes before it say
@@ -58,7 +59,8 @@ module _ (s : List ℕ) (at k : ℕ) (part : IdPart)
       let l : ltb (indexOf 44 (drop at s)) (length (drop at s)) ≡ true
       = lt-ltb (indexOf 44 (drop at s)) (length (drop at s)) (simp length-drop (omega (arith, comma))) in
       let d : drop (suc (indexOf 44 (drop at s))) (drop at s) ≡ drop (at + (k + 1)) s
-      = drop-drop (suc (indexOf 44 (drop at s))) at s ∙ ap (λ (n : ℕ). drop n s) (let z : at + suc (indexOf 44 (drop at s)) ≡ at + (k + 1) = omega (arith, comma) in z) in
+      = drop-drop (suc (indexOf 44 (drop at s))) at s ∙ ap (λ (n : ℕ). drop n s)
+      (let z : at + suc (indexOf 44 (drop at s)) ≡ at + (k + 1) = omega (arith, comma) in z) in
       parts-are ∙ (ap (λ (t : Bool). take k (drop at s) ∷ keep t (splitOn 44 (drop (suc (indexOf 44 (drop at s))) (drop at s)))) l
       ∙ ap (λ (r : List ℕ). take k (drop at s) ∷ splitOn 44 r) d)
 

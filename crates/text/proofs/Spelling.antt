@@ -29,7 +29,8 @@ module _ (s w : List ℕ) (i : ℕ) (h : i < length s) (l : length s ≡ length 
   in-word : i < length w
   in-word = omega arith
 
-  pub same-byte : foldByte (getD s i 0) ≡ getD w i 0 → same (fold (drop i s)) (drop i w) ≡ same (fold (drop (suc i) s)) (drop (suc i) w)
+  pub same-byte : foldByte (getD s i 0) ≡ getD w i 0 → same (fold (drop i s)) (drop i w) ≡ same (fold (drop (suc i) s))
+      (drop (suc i) w)
   unfolding same fold
   same-byte e = rw (drop-cons s i 0 h, drop-cons w i 0 in-word, eq-eqb (foldByte (getD s i 0)) (getD w i 0) e)
 

@@ -1,10 +1,56 @@
+use Prim.Native.Nat.{ℕ}
 use borrow.Author.Needs.{needs}
-use Prim.Native.Nat.{_-_}
-use mathlib.Core.Path.{sym, ap, _∙_}
+use mathlib.Core.Path.{_≡_, sym, ap, _∙_}
 use Rattle.reading.specs.Directive.{withoutLists}
 use Rattle.directive.proofs.Values.{is-engine, is-removal, is-target, is-access, is-processor, is-other}
+use mathlib.Core.Bool.{false}
+use mathlib.Core.List.{List}
+use Rattle.reading.specs.Text.{ascii, same, fold}
 use Rattle.directive.proofs.parse.Statement.{statement}
 use Rattle.directive.proofs.parse.Tie as tie
+
+-- where both texts are trimmed, seen from behind each test that failed
+abbrev trimmed1 : tie.Else1 → tie.After-trimmed2
+trimmed1 c = c .before .before .before
+
+abbrev trimmed2 : tie.Else2 → tie.After-trimmed2
+trimmed2 c = trimmed1 (c .before .before .before)
+
+abbrev trimmed3 : tie.Else3 → tie.After-trimmed2
+trimmed3 c = trimmed2 (c .before .before .before)
+
+abbrev trimmed4 : tie.Else4 → tie.After-trimmed2
+trimmed4 c = trimmed3 (c .before .before .before)
+
+abbrev trimmed5 : tie.Else5 → tie.After-trimmed2
+trimmed5 c = trimmed4 (c .before .before .before)
+
+-- the folded name
+abbrev folded : tie.After-trimmed2 → List ℕ
+folded c = fold (c .before .trimmed .result .now)
+
+-- the spellings that it is not
+not-ruleengine : (c : tie.Else1) → same (folded (trimmed1 c)) (ascii "ruleengine") ≡ false
+not-ruleengine c = sym (c .before .folds-to .ensures) ∙ c .if1 .left
+
+not-ruleremovebyid : (c : tie.Else2) → same (folded (trimmed2 c)) (ascii "ruleremovebyid") ≡ false
+not-ruleremovebyid c = sym (c .before .folds-to2 .ensures) ∙ c .if2 .left
+
+not-ruleremovetargetbyid : (c : tie.Else3) → same (folded (trimmed3 c)) (ascii "ruleremovetargetbyid") ≡ false
+not-ruleremovetargetbyid c = sym (c .before .folds-to3 .ensures) ∙ c .if3 .left
+
+not-requestbodyaccess : (c : tie.Else4) → same (folded (trimmed4 c)) (ascii "requestbodyaccess") ≡ false
+not-requestbodyaccess c = sym (c .before .folds-to4 .ensures) ∙ c .if4 .left
+
+not-requestbodyprocessor : (c : tie.Else5) → same (folded (trimmed5 c)) (ascii "requestbodyprocessor") ≡ false
+not-requestbodyprocessor c = sym (c .before .folds-to5 .ensures) ∙ c .if5 .left
+
+-- the texts as lent
+abbrev name : tie.After-trimmed2 → List ℕ
+name c = c .before .before .before .before .args .name .now
+
+abbrev value : tie.After-trimmed2 → List ℕ
+value c = c .before .before .before .before .args .value .now
 
 trimmed-requires : tie.Need-trimmed-requires
 trimmed-requires c κs = search needs
@@ -22,9 +68,11 @@ rule-engine-requires : tie.Need-rule-engine-requires
 rule-engine-requires c κs = search needs
 
 returns : tie.Need-returns
-returns c = let a = c .before .before .before .before .before .before .before .before .args in
-    let law = is-engine (a .name .now) (a .value .now) (c .before .before .before .before .before .trimmed .result .now) (c .before .before .before .before .trimmed2 .result .now) (c .before .before .before .before .before .trimmed .ensures) (c .before .before .before .before .trimmed2 .ensures) in
-    c .rule-engine .ensures (a .value .now) ∙ ap (withoutLists (a .value .now)) (sym (law (sym (c .before .before .folds-to .ensures) ∙ c .before .if1 .taken)))
+returns c =
+    let t = c .before .before .before .before in
+    let law = is-engine (name t) (value t) _ _ (t .before .trimmed .ensures) (t .trimmed2 .ensures) in
+    let yes = sym (c .before .before .folds-to .ensures) ∙ c .before .if1 .taken in
+    c .rule-engine .ensures (value t) ∙ ap (withoutLists (value t)) (sym (law yes))
 
 slice-aggregate-folds-to-2 : tie.Need-slice-aggregate-folds-to-2
 slice-aggregate-folds-to-2 c = search needs
@@ -36,9 +84,12 @@ rule-remove-by-id-requires : tie.Need-rule-remove-by-id-requires
 rule-remove-by-id-requires c κs = search needs
 
 returns-2 : tie.Need-returns-2
-returns-2 c = let a = c .before .before .before .before .before .before .before .before .before .before .before .args in
-    let law = is-removal (a .name .now) (a .value .now) (c .before .before .before .before .before .before .before .before .trimmed .result .now) (c .before .before .before .before .before .before .before .trimmed2 .result .now) (c .before .before .before .before .before .before .before .before .trimmed .ensures) (c .before .before .before .before .before .before .before .trimmed2 .ensures) in
-    c .rule-remove-by-id .ensures (a .value .now) ∙ ap (withoutLists (a .value .now)) (sym (law (sym (c .before .before .before .before .before .folds-to .ensures) ∙ c .before .before .before .before .if1 .left) (sym (c .before .before .folds-to2 .ensures) ∙ c .before .if2 .taken)))
+returns-2 c =
+    let e1 = c .before .before .before .before in
+    let t = trimmed1 e1 in
+    let law = is-removal (name t) (value t) _ _ (t .before .trimmed .ensures) (t .trimmed2 .ensures) in
+    let yes = sym (c .before .before .folds-to2 .ensures) ∙ c .before .if2 .taken in
+    c .rule-remove-by-id .ensures (value t) ∙ ap (withoutLists (value t)) (sym (law (not-ruleengine e1) yes))
 
 slice-aggregate-folds-to-3 : tie.Need-slice-aggregate-folds-to-3
 slice-aggregate-folds-to-3 c = search needs
@@ -50,9 +101,13 @@ rule-remove-target-by-id-requires : tie.Need-rule-remove-target-by-id-requires
 rule-remove-target-by-id-requires c κs = search needs
 
 returns-3 : tie.Need-returns-3
-returns-3 c = let a = c .before .before .before .before .before .before .before .before .before .before .before .before .before .before .args in
-    let law = is-target (a .name .now) (a .value .now) (c .before .before .before .before .before .before .before .before .before .before .before .trimmed .result .now) (c .before .before .before .before .before .before .before .before .before .before .trimmed2 .result .now) (c .before .before .before .before .before .before .before .before .before .before .before .trimmed .ensures) (c .before .before .before .before .before .before .before .before .before .before .trimmed2 .ensures) in
-    c .rule-remove-target-by-id .ensures ∙ ap (withoutLists (a .value .now)) (sym (law (sym (c .before .before .before .before .before .before .before .before .folds-to .ensures) ∙ c .before .before .before .before .before .before .before .if1 .left) (sym (c .before .before .before .before .before .folds-to2 .ensures) ∙ c .before .before .before .before .if2 .left) (sym (c .before .before .folds-to3 .ensures) ∙ c .before .if3 .taken)))
+returns-3 c =
+    let e2 = c .before .before .before .before in
+    let e1 = e2 .before .before .before in
+    let t = trimmed2 e2 in
+    let law = is-target (name t) (value t) _ _ (t .before .trimmed .ensures) (t .trimmed2 .ensures) in
+    let yes = sym (c .before .before .folds-to3 .ensures) ∙ c .before .if3 .taken in
+    c .rule-remove-target-by-id .ensures ∙ ap (withoutLists (value t)) (sym (law (not-ruleengine e1) (not-ruleremovebyid e2) yes))
 
 slice-aggregate-folds-to-4 : tie.Need-slice-aggregate-folds-to-4
 slice-aggregate-folds-to-4 c = search needs
@@ -64,9 +119,15 @@ request-body-access-requires : tie.Need-request-body-access-requires
 request-body-access-requires c κs = search needs
 
 returns-4 : tie.Need-returns-4
-returns-4 c = let a = c .before .before .before .before .before .before .before .before .before .before .before .before .before .before .before .before .before .args in
-    let law = is-access (a .name .now) (a .value .now) (c .before .before .before .before .before .before .before .before .before .before .before .before .before .before .trimmed .result .now) (c .before .before .before .before .before .before .before .before .before .before .before .before .before .trimmed2 .result .now) (c .before .before .before .before .before .before .before .before .before .before .before .before .before .before .trimmed .ensures) (c .before .before .before .before .before .before .before .before .before .before .before .before .before .trimmed2 .ensures) in
-    c .request-body-access .ensures (a .value .now) ∙ ap (withoutLists (a .value .now)) (sym (law (sym (c .before .before .before .before .before .before .before .before .before .before .before .folds-to .ensures) ∙ c .before .before .before .before .before .before .before .before .before .before .if1 .left) (sym (c .before .before .before .before .before .before .before .before .folds-to2 .ensures) ∙ c .before .before .before .before .before .before .before .if2 .left) (sym (c .before .before .before .before .before .folds-to3 .ensures) ∙ c .before .before .before .before .if3 .left) (sym (c .before .before .folds-to4 .ensures) ∙ c .before .if4 .taken)))
+returns-4 c =
+    let e3 = c .before .before .before .before in
+    let e2 = e3 .before .before .before in
+    let e1 = e2 .before .before .before in
+    let t = trimmed3 e3 in
+    let law = is-access (name t) (value t) _ _ (t .before .trimmed .ensures) (t .trimmed2 .ensures) in
+    let yes = sym (c .before .before .folds-to4 .ensures) ∙ c .before .if4 .taken in
+    c .request-body-access .ensures (value t) ∙ ap (withoutLists (value t))
+    (sym (law (not-ruleengine e1) (not-ruleremovebyid e2) (not-ruleremovetargetbyid e3) yes))
 
 slice-aggregate-folds-to-5 : tie.Need-slice-aggregate-folds-to-5
 slice-aggregate-folds-to-5 c = search needs
@@ -78,14 +139,28 @@ request-body-processor-requires : tie.Need-request-body-processor-requires
 request-body-processor-requires c κs = search needs
 
 returns-5 : tie.Need-returns-5
-returns-5 c = let a = c .before .before .before .before .before .before .before .before .before .before .before .before .before .before .before .before .before .before .before .before .args in
-    let law = is-processor (a .name .now) (a .value .now) (c .before .before .before .before .before .before .before .before .before .before .before .before .before .before .before .before .before .trimmed .result .now) (c .before .before .before .before .before .before .before .before .before .before .before .before .before .before .before .before .trimmed2 .result .now) (c .before .before .before .before .before .before .before .before .before .before .before .before .before .before .before .before .before .trimmed .ensures) (c .before .before .before .before .before .before .before .before .before .before .before .before .before .before .before .before .trimmed2 .ensures) in
-    c .request-body-processor .ensures (a .value .now) ∙ ap (withoutLists (a .value .now)) (sym (law (sym (c .before .before .before .before .before .before .before .before .before .before .before .before .before .before .folds-to .ensures) ∙ c .before .before .before .before .before .before .before .before .before .before .before .before .before .if1 .left) (sym (c .before .before .before .before .before .before .before .before .before .before .before .folds-to2 .ensures) ∙ c .before .before .before .before .before .before .before .before .before .before .if2 .left) (sym (c .before .before .before .before .before .before .before .before .folds-to3 .ensures) ∙ c .before .before .before .before .before .before .before .if3 .left) (sym (c .before .before .before .before .before .folds-to4 .ensures) ∙ c .before .before .before .before .if4 .left) (sym (c .before .before .folds-to5 .ensures) ∙ c .before .if5 .taken)))
+returns-5 c =
+    let e4 = c .before .before .before .before in
+    let e3 = e4 .before .before .before in
+    let e2 = e3 .before .before .before in
+    let e1 = e2 .before .before .before in
+    let t = trimmed4 e4 in
+    let law = is-processor (name t) (value t) _ _ (t .before .trimmed .ensures) (t .trimmed2 .ensures) in
+    let yes = sym (c .before .before .folds-to5 .ensures) ∙ c .before .if5 .taken in
+    c .request-body-processor .ensures (value t) ∙ ap (withoutLists (value t))
+    (sym (law (not-ruleengine e1) (not-ruleremovebyid e2) (not-ruleremovetargetbyid e3) (not-requestbodyaccess e4) yes))
 
 returns-6 : tie.Need-returns-6
-returns-6 c = let a = c .before .before .before .before .before .before .before .before .before .before .before .before .before .before .before .before .before .before .before .args in
-    let law = is-other (a .name .now) (a .value .now) (c .before .before .before .before .before .before .before .before .before .before .before .before .before .before .before .before .trimmed .result .now) (c .before .before .before .before .before .before .before .before .before .before .before .before .before .before .before .trimmed2 .result .now) (c .before .before .before .before .before .before .before .before .before .before .before .before .before .before .before .before .trimmed .ensures) (c .before .before .before .before .before .before .before .before .before .before .before .before .before .before .before .trimmed2 .ensures) in
-    ap (withoutLists (a .value .now)) (sym (law (sym (c .before .before .before .before .before .before .before .before .before .before .before .before .before .folds-to .ensures) ∙ c .before .before .before .before .before .before .before .before .before .before .before .before .if1 .left) (sym (c .before .before .before .before .before .before .before .before .before .before .folds-to2 .ensures) ∙ c .before .before .before .before .before .before .before .before .before .if2 .left) (sym (c .before .before .before .before .before .before .before .folds-to3 .ensures) ∙ c .before .before .before .before .before .before .if3 .left) (sym (c .before .before .before .before .folds-to4 .ensures) ∙ c .before .before .before .if4 .left) (sym (c .before .folds-to5 .ensures) ∙ c .if5 .left)))
+returns-6 c =
+    let e5 = c in
+    let e4 = e5 .before .before .before in
+    let e3 = e4 .before .before .before in
+    let e2 = e3 .before .before .before in
+    let e1 = e2 .before .before .before in
+    let t = trimmed5 e5 in
+    let law = is-other (name t) (value t) _ _ (t .before .trimmed .ensures) (t .trimmed2 .ensures) in
+    ap (withoutLists (value t)) (sym (law (not-ruleengine e1) (not-ruleremovebyid e2) (not-ruleremovetargetbyid e3)
+    (not-requestbodyaccess e4) (not-requestbodyprocessor e5)))
 
 pub parse-spec : {M : Type 1} → statement M
 parse-spec =

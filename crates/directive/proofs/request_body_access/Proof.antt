@@ -1,5 +1,4 @@
 use borrow.Author.Needs.{needs}
-use Prim.Native.Nat.{_-_}
 use mathlib.Core.Path.{sym, ap, _∙_}
 use Rattle.reading.specs.Directive.{withoutLists}
 use Rattle.directive.specs.Reader.{accessBy}
@@ -19,7 +18,8 @@ returns : tie.Need-returns
 returns c = λ lent. ap (withoutLists lent) (ap accessBy (sym (c .enum-told .given .1)) ∙ c .before .before .access-named .ensures)
 
 returns-2 : tie.Need-returns-2
-returns-2 c = λ lent. ap (withoutLists lent) (ap accessBy (sym (c .before .access .given .1)) ∙ c .before .before .before .access-named .ensures)
+returns-2 c = λ lent. ap (withoutLists lent) (ap accessBy (sym (c .before .access .given .1)) ∙
+    c .before .before .before .access-named .ensures)
 
 pub request-body-access-spec : {M : Type 1} → statement M
 request-body-access-spec =

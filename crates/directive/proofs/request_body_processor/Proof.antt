@@ -1,5 +1,4 @@
 use borrow.Author.Needs.{needs}
-use Prim.Native.Nat.{_-_}
 use mathlib.Core.Path.{sym, ap, _∙_}
 use Rattle.reading.specs.Directive.{withoutLists}
 use Rattle.directive.specs.Reader.{processorBy}
@@ -16,10 +15,12 @@ enum-told : tie.Need-enum-told
 enum-told c = search needs
 
 returns : tie.Need-returns
-returns c = λ lent. ap (withoutLists lent) (ap processorBy (sym (c .enum-told .given .1)) ∙ c .before .before .processor-named .ensures)
+returns c = λ lent. ap (withoutLists lent) (ap processorBy (sym (c .enum-told .given .1)) ∙
+    c .before .before .processor-named .ensures)
 
 returns-2 : tie.Need-returns-2
-returns-2 c = λ lent. ap (withoutLists lent) (ap processorBy (sym (c .before .processor .given .1)) ∙ c .before .before .before .processor-named .ensures)
+returns-2 c = λ lent. ap (withoutLists lent) (ap processorBy (sym (c .before .processor .given .1)) ∙
+    c .before .before .before .processor-named .ensures)
 
 pub request-body-processor-spec : {M : Type 1} → statement M
 request-body-processor-spec =

@@ -1,5 +1,4 @@
 use borrow.Author.Needs.{needs}
-use Prim.Native.Nat.{_-_}
 use mathlib.Core.Path.{sym, ap, _∙_}
 use Rattle.reading.specs.Directive.{withoutLists}
 use Rattle.directive.specs.Reader.{engineBy}
@@ -19,7 +18,8 @@ returns : tie.Need-returns
 returns c = λ lent. ap (withoutLists lent) (ap engineBy (sym (c .enum-told .given .1)) ∙ c .before .before .mode-named .ensures)
 
 returns-2 : tie.Need-returns-2
-returns-2 c = λ lent. ap (withoutLists lent) (ap engineBy (sym (c .before .mode .given .1)) ∙ c .before .before .before .mode-named .ensures)
+returns-2 c = λ lent. ap (withoutLists lent) (ap engineBy (sym (c .before .mode .given .1)) ∙
+    c .before .before .before .mode-named .ensures)
 
 pub rule-engine-spec : {M : Type 1} → statement M
 rule-engine-spec =

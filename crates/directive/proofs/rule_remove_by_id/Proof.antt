@@ -1,5 +1,4 @@
 use borrow.Author.Needs.{needs}
-use Prim.Native.Nat.{_-_}
 use mathlib.Core.Path.{sym, _∙_}
 use Rattle.directive.proofs.Values.{removal-none, removal-some}
 use Rattle.directive.proofs.rule_remove_by_id.Statement.{statement}
@@ -15,10 +14,12 @@ enum-told : tie.Need-enum-told
 enum-told c = search needs
 
 returns : tie.Need-returns
-returns c = λ lent. removal-none (c .before .before .before .before .args .value .now) lent (sym (c .before .before .count-ranges .ensures) ∙ c .enum-told .given .1)
+returns c = λ lent. removal-none (c .before .before .before .before .args .value .now) lent
+    (sym (c .before .before .count-ranges .ensures) ∙ c .enum-told .given .1)
 
 returns-2 : tie.Need-returns-2
-returns-2 c = λ lent. removal-some (c .before .before .before .before .before .args .value .now) lent _ (sym (c .before .before .before .count-ranges .ensures) ∙ c .before .n .given .1)
+returns-2 c = λ lent. removal-some (c .before .before .before .before .before .args .value .now) lent _
+    (sym (c .before .before .before .count-ranges .ensures) ∙ c .before .n .given .1)
 
 pub rule-remove-by-id-spec : {M : Type 1} → statement M
 rule-remove-by-id-spec =

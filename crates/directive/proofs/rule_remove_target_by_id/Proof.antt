@@ -1,5 +1,4 @@
 use borrow.Author.Needs.{needs}
-use Prim.Native.Nat.{_-_}
 use mathlib.Core.Path.{sym, ap, _∙_}
 use Rattle.reading.specs.declared.CtlDirective.{CtlDirective}
 use Rattle.directive.proofs.Values.{target-yes, target-no}
@@ -13,11 +12,14 @@ find-requires : tie.Need-find-requires
 find-requires c κs = search needs
 
 returns : tie.Need-returns
-returns c = let a = c .before .before .before .before .before .args in
-    ap CtlDirective.RuleRemoveTargetById (c .find .ensures) ∙ target-yes (a .t .now) (a .value .now) (sym (c .before .before .is-target .ensures) ∙ c .before .if1 .taken)
+returns c =
+    let a = c .before .before .before .before .before .args in
+    ap CtlDirective.RuleRemoveTargetById (c .find .ensures) ∙ target-yes (a .t .now) (a .value .now)
+    (sym (c .before .before .is-target .ensures) ∙ c .before .if1 .taken)
 
 returns-2 : tie.Need-returns-2
-returns-2 c = let a = c .before .before .before .before .args in
+returns-2 c =
+    let a = c .before .before .before .before .args in
     target-no (a .t .now) (a .value .now) (sym (c .before .is-target .ensures) ∙ c .if1 .left)
 
 pub rule-remove-target-by-id-spec : {M : Type 1} → statement M

@@ -1,4 +1,3 @@
-use Prim.Native.Nat.{_-_}
 use borrow.Author.Tests.{eq-eqb, ne-eqb}
 use Rattle.ranges.proofs.counted.Statement.{statement}
 use Rattle.ranges.proofs.counted.Tie as tie

@@ -11,13 +11,17 @@ use Rattle.ranges.proofs.ids_around.Statement.{statement}
 use Rattle.ranges.proofs.ids_around.Tie as tie
 
 -- the two numbers, as the calls answered them
-first : (c : tie.After-read-number) → c .read-number .result ≡ numberOf (trim (take (c .before .before .before .before .args .k) (c .before .before .before .before .args .t .now)))
+first : (c : tie.After-read-number) → c .read-number .result ≡ numberOf
+    (trim (take (c .before .before .before .before .args .k) (c .before .before .before .before .args .t .now)))
 first c = c .read-number .ensures ∙ ap numberOf (c .before .trimmed .ensures)
 
-second : (c : tie.After-read-number2) → c .read-number2 .result ≡ numberOf (trim (drop (suc (c .before .before .before .before .before .before .before .before .before .before .args .k)) (c .before .before .before .before .before .before .before .before .before .before .args .t .now)))
+second : (c : tie.After-read-number2) → c .read-number2 .result ≡ numberOf
+    (trim (drop (suc (c .before .before .before .before .before .before .before .before .before .before .args .k))
+    (c .before .before .before .before .before .before .before .before .before .before .args .t .now)))
 second c =
     let a = c .before .before .before .before .before .before .before .before .before .before .args in
-    let e : take (length (a .t .now) - (a .k + 1)) (drop (a .k + 1) (a .t .now)) ≡ drop (suc (a .k)) (a .t .now) = simp add-one (rest-eq (a .t .now) (suc (a .k))) in
+    let e : take (length (a .t .now) - (a .k + 1)) (drop (a .k + 1) (a .t .now)) ≡ drop (suc (a .k)) (a .t .now) = simp add-one
+    (rest-eq (a .t .now) (suc (a .k))) in
     c .read-number2 .ensures ∙ ap numberOf (c .before .trimmed2 .ensures ∙ ap trim e)
 
 slice-aggregate-trimmed : tie.Need-slice-aggregate-trimmed
@@ -36,7 +40,8 @@ enum-told : tie.Need-enum-told
 enum-told c = search needs
 
 returns : tie.Need-returns
-returns c = let a = c .before .before .before .before .before .before .args in
+returns c =
+    let a = c .before .before .before .before .before .before .args in
     let x : c .before .before .read-number .result ≡ numberOf (trim (take (a .k) (a .t .now))) = first (c .before .before) in
     sym (around-first-bad _ _ (sym x ∙ c .enum-told .given .1))
 
@@ -65,19 +70,25 @@ enum-told-2 : tie.Need-enum-told-2
 enum-told-2 c = search needs
 
 returns-2 : tie.Need-returns-2
-returns-2 c = let x = first (c .before .before .before .before .before .before .before .before) in
+returns-2 c =
+    let x = first (c .before .before .before .before .before .before .before .before) in
     let y = second (c .before .before) in
-    sym (around-second-bad _ _ _ (sym x ∙ c .before .before .before .before .before .before .start .given .1) (sym y ∙ c .enum-told2 .given .1))
+    sym (around-second-bad _ _ _ (sym x ∙ c .before .before .before .before .before .before .start .given .1)
+    (sym y ∙ c .enum-told2 .given .1))
 
 returns-3 : tie.Need-returns-3
-returns-3 c = let x = first (c .before .before .before .before .before .before .before .before .before .before) in
+returns-3 c =
+    let x = first (c .before .before .before .before .before .before .before .before .before .before) in
     let y = second (c .before .before .before .before) in
-    sym (around-above _ _ _ (sym x ∙ c .before .before .before .before .before .before .before .before .start .given .1) _ (sym y ∙ c .before .before .end .given .1) (c .if1 .taken))
+    sym (around-above _ _ _ (sym x ∙ c .before .before .before .before .before .before .before .before .start .given .1) _
+    (sym y ∙ c .before .before .end .given .1) (c .if1 .taken))
 
 returns-4 : tie.Need-returns-4
-returns-4 c = let x = first (c .before .before .before .before .before .before .before .before .before .before) in
+returns-4 c =
+    let x = first (c .before .before .before .before .before .before .before .before .before .before) in
     let y = second (c .before .before .before .before) in
-    sym (around-range _ _ _ (sym x ∙ c .before .before .before .before .before .before .before .before .start .given .1) _ (sym y ∙ c .before .before .end .given .1) (c .if1 .left))
+    sym (around-range _ _ _ (sym x ∙ c .before .before .before .before .before .before .before .before .start .given .1) _
+    (sym y ∙ c .before .before .end .given .1) (c .if1 .left))
 
 pub ids-around-spec : {M : Type 1} → statement M
 ids-around-spec =

@@ -1,5 +1,4 @@
 use borrow.Author.Needs.{needs}
-use Prim.Native.Nat.{_-_}
 use mathlib.Core.Path.{ap}
 use native.Mathlib.Omega.{arith}
 use Rattle.reading.specs.Text.{rangeIn}
@@ -8,12 +7,16 @@ use Rattle.ranges.proofs.put_range.Statement.{statement}
 use Rattle.ranges.proofs.put_range.Tie as tie
 
 returns : tie.Need-returns
-returns c = let a = c .before .args in
-    put-none (a .part) (a .k) (a .starts .now) (a .ends .now) (no-place (a .part) (a .k) (a .starts .now) (a .ends .now) (omega arith))
+returns c =
+    let a = c .before .args in
+    put-none (a .part) (a .k) (a .starts .now) (a .ends .now)
+    (no-place (a .part) (a .k) (a .starts .now) (a .ends .now) (omega arith))
 
 returns-2 : tie.Need-returns-2
-returns-2 c = let a = c .before .before .args in
-    put-none (a .part) (a .k) (a .starts .now) (a .ends .now) (no-place (a .part) (a .k) (a .starts .now) (a .ends .now) (omega arith))
+returns-2 c =
+    let a = c .before .before .args in
+    put-none (a .part) (a .k) (a .starts .now) (a .ends .now)
+    (no-place (a .part) (a .k) (a .starts .now) (a .ends .now) (omega arith))
 
 enum-told : tie.Need-enum-told
 enum-told c = search needs
@@ -40,12 +43,16 @@ add-result : tie.Need-add-result
 add-result c = search needs
 
 returns-3 : tie.Need-returns-3
-returns-3 c = let a = c .before .before .before .before .args in
-    put-none (a .part) (a .k) (a .starts .now) (a .ends .now) (no-range (a .part) (a .k) (a .starts .now) (a .ends .now) (ap rangeIn (c .enum-told .given .1)))
+returns-3 c =
+    let a = c .before .before .before .before .args in
+    put-none (a .part) (a .k) (a .starts .now) (a .ends .now)
+    (no-range (a .part) (a .k) (a .starts .now) (a .ends .now) (ap rangeIn (c .enum-told .given .1)))
 
 returns-4 : tie.Need-returns-4
-returns-4 c = let a = c .before .before .before .before .args in
-    put-none (a .part) (a .k) (a .starts .now) (a .ends .now) (no-range (a .part) (a .k) (a .starts .now) (a .ends .now) (ap rangeIn (c .enum-told2 .given .1)))
+returns-4 c =
+    let a = c .before .before .before .before .args in
+    put-none (a .part) (a .k) (a .starts .now) (a .ends .now)
+    (no-range (a .part) (a .k) (a .starts .now) (a .ends .now) (ap rangeIn (c .enum-told2 .given .1)))
 
 same-length : tie.Need-same-length
 same-length c = search needs
@@ -54,8 +61,10 @@ same-length-2 : tie.Need-same-length-2
 same-length-2 c = search needs
 
 returns-5 : tie.Need-returns-5
-returns-5 c = let a = c .before .before .before .before .before .args in
-    put-one (a .part) (a .k) (a .starts .now) (a .ends .now) (c .before .part .given .0 .0) (c .before .part .given .1) (omega arith)
+returns-5 c =
+    let a = c .before .before .before .before .before .args in
+    put-one (a .part) (a .k) (a .starts .now) (a .ends .now) (c .before .part .given .0 .0) (c .before .part .given .1)
+    (omega arith)
 
 pub put-range-spec : {M : Type 1} → statement M
 put-range-spec =

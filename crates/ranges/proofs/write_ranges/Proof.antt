@@ -1,8 +1,10 @@
+use mathlib.Core.List.{List}
+use lib.ListN.{length}
+use Rattle.ranges.specs.Ranges.{Written}
 use borrow.Author.Needs.{needs}
-use Prim.Native.Nat.{_-_, _≤_, min}
+use Prim.Native.Nat.{ℕ, _+_, _-_, _≤_, _<_, min}
 use mathlib.Core.Path.{_∙_}
 use native.Mathlib.Omega.{arith}
-use lib.ListN.{length}
 use Rattle.reading.specs.Directive.{startOf, endOf}
 use Rattle.text.proofs.Slices.{front-length}
 use Rattle.text.proofs.Search.{index-le}
@@ -11,15 +13,77 @@ use Rattle.ranges.proofs.write_ranges.Statement.{statement}
 use Rattle.ranges.proofs.write_ranges.Tie as tie
 
 abbrev Inv-loop : tie.InvT-loop
-Inv-loop value starts₀ ends₀ k₀ at₀ starts ends k at = (at ≤ length value) × Done startOf (min (length starts₀) (length ends₀)) value starts₀ starts k at × Done endOf (min (length starts₀) (length ends₀)) value ends₀ ends k at
+Inv-loop value starts₀ ends₀ k₀ at₀ starts ends k at = (at ≤ length value) × Done startOf (min (length starts₀) (length ends₀))
+    value starts₀ starts k at × Done endOf (min (length starts₀) (length ends₀)) value ends₀ ends k at
 
 abbrev μ-loop : tie.MeasureT-loop
 μ-loop value starts₀ ends₀ k₀ at₀ starts ends k at = length value - at
 
+-- the call's value and lists, and the loop's numbers
+abbrev value : tie.After-put-range Inv-loop μ-loop → List ℕ
+value c = c .before .before .before .before .before .before .before .before .before .before .before .args .value .now
+
+abbrev starts : tie.After-put-range Inv-loop μ-loop → List ℕ
+starts c = c .before .before .before .before .before .before .before .before .before .before .before .args .starts .now
+
+abbrev ends : tie.After-put-range Inv-loop μ-loop → List ℕ
+ends c = c .before .before .before .before .before .before .before .before .before .before .before .args .ends .now
+
+abbrev index : tie.After-put-range Inv-loop μ-loop → ℕ
+index c = c .before .before .before .before .before .before .before .loop .at
+
+abbrev comma : tie.After-put-range Inv-loop μ-loop → ℕ
+comma c = c .before .before .before .before .before .find .result
+
+abbrev room : tie.After-put-range Inv-loop μ-loop → ℕ
+room c = min (length (starts c)) (length (ends c))
+
+-- the next index, and the lists as the call of put_range left them
+abbrev next : tie.After-put-range Inv-loop μ-loop → ℕ
+next c = c .put-range .result
+
+abbrev starts-now : tie.After-put-range Inv-loop μ-loop → List ℕ
+starts-now c = c .put-range .last .1 .1 .0
+
+abbrev ends-now : tie.After-put-range Inv-loop μ-loop → List ℕ
+ends-now c = c .put-range .last .1 .1 .1 .0
+
+module _ (c : tie.After-put-range Inv-loop μ-loop) where
+  last : length (value c) - index c ≤ comma c → Written (value c) (starts c) (ends c) (starts-now c) (ends-now c)
+  last =
+      written-last (value c) (starts c) (ends c) (index c) (comma c) _ (c .before .before .before .before .before .find .ensures)
+      (c .before .before .before .id-part .ensures)
+      _ _ _ _ (c .before .before .before .before .before .before .before .loop .k) _
+      (c .before .before .before .before .before .before .before .loop .inv .1)
+      (c .before .before .before .before .before .before .before .loop .inv .2) (c .put-range .ensures)
+
+  starts-next : comma c < length (value c) - index c → Done startOf (room c) (value c) (starts c) (starts-now c) (next c)
+      (index c + (comma c + 1))
+  starts-next =
+      starts-more (value c) (starts c) (ends c) (index c) (comma c) _ (c .before .before .before .before .before .find .ensures)
+      (c .before .before .before .id-part .ensures)
+      _ _ _ _ (c .before .before .before .before .before .before .before .loop .k) _
+      (c .before .before .before .before .before .before .before .loop .inv .1)
+      (c .before .before .before .before .before .before .before .loop .inv .2) (c .put-range .ensures)
+
+  ends-next : comma c < length (value c) - index c → Done endOf (room c) (value c) (ends c) (ends-now c) (next c)
+      (index c + (comma c + 1))
+  ends-next =
+      ends-more (value c) (starts c) (ends c) (index c) (comma c) _ (c .before .before .before .before .before .find .ensures)
+      (c .before .before .before .id-part .ensures)
+      _ _ _ _ (c .before .before .before .before .before .before .before .loop .k) _
+      (c .before .before .before .before .before .before .before .loop .inv .1)
+      (c .before .before .before .before .before .before .before .loop .inv .2) (c .put-range .ensures)
+
 loop-holds : tie.Need-loop-holds Inv-loop μ-loop
-loop-holds c = let a = c .before .before .before .args in
-    let room = min (length (a .starts .now)) (length (a .ends .now)) in
-    (omega arith, done-start startOf room (a .value .now) (a .starts .now) (omega arith), done-start endOf room (a .value .now) (a .ends .now) (omega arith))
+loop-holds c =
+    let a = c .before .before .before .args in
+    let room = min (length (a .starts .now)) (length (a .ends .now)) in (
+      omega arith,
+      done-start startOf room (a .value .now) (a .starts .now) (omega arith),
+      done-start endOf room (a .value .now)
+          (a .ends .now) (omega arith),
+    )
 
 sub-rest : tie.Need-sub-rest Inv-loop μ-loop
 sub-rest c = omega arith
@@ -46,15 +110,17 @@ sub-if1 : tie.Need-sub-if1 Inv-loop μ-loop
 sub-if1 c = omega arith
 
 same-length : tie.Need-same-length Inv-loop μ-loop
-same-length c = c .before .before .before .before .before .put-range .kept .1 .1 .0 ∙ c .before .before .before .before .before .before .before .before .before .before .before .before .loop .inv .1 .kept
+same-length c =
+    let t = c .before .before .before .before .before in
+    t .put-range .kept .1 .1 .0 ∙ c .before .before .before .before .before .before .before .before .before .before .before .before .loop .inv .1 .kept
 
 same-length-2 : tie.Need-same-length-2 Inv-loop μ-loop
-same-length-2 c = c .before .before .before .before .before .put-range .kept .1 .1 .1 .0 ∙ c .before .before .before .before .before .before .before .before .before .before .before .before .loop .inv .2 .kept
+same-length-2 c =
+    let t = c .before .before .before .before .before in
+    t .put-range .kept .1 .1 .1 .0 ∙ c .before .before .before .before .before .before .before .before .before .before .before .before .loop .inv .2 .kept
 
 returns : tie.Need-returns Inv-loop μ-loop
-returns c = let a = c .before .before .before .before .before .before .before .before .before .before .before .before .before .before .before .before .args in
-    let l = c .before .before .before .before .before .before .before .before .before .before .before .before .loop in
-    written-last (a .value .now) (a .starts .now) (a .ends .now) (l .at) (c .before .before .before .before .before .before .before .before .before .before .find .result) (c .before .before .before .before .before .before .before .before .id-part .result) (c .before .before .before .before .before .before .before .before .before .before .find .ensures) (c .before .before .before .before .before .before .before .before .id-part .ensures) _ _ _ _ (l .k) _ (l .inv .1) (l .inv .2) (c .before .before .before .before .before .put-range .ensures) (c .if1 .taken)
+returns c = last (c .before .before .before .before .before) (c .if1 .taken)
 
 add-at : tie.Need-add-at Inv-loop μ-loop
 add-at c = omega arith
@@ -66,9 +132,9 @@ loop-less : tie.Need-loop-less Inv-loop μ-loop
 loop-less c = omega arith
 
 loop-again : tie.Need-loop-again Inv-loop μ-loop
-loop-again c = let a = c .before .before .before .before .before .before .before .before .before .before .before .before .before .before .before .before .args in
-    let l = c .before .before .before .before .before .before .before .before .before .before .before .before .loop in
-    (omega arith, starts-more (a .value .now) (a .starts .now) (a .ends .now) (l .at) (c .before .before .before .before .before .before .before .before .before .before .find .result) (c .before .before .before .before .before .before .before .before .id-part .result) (c .before .before .before .before .before .before .before .before .before .before .find .ensures) (c .before .before .before .before .before .before .before .before .id-part .ensures) _ _ _ _ (l .k) _ (l .inv .1) (l .inv .2) (c .before .before .before .before .before .put-range .ensures) (c .if1 .left), ends-more (a .value .now) (a .starts .now) (a .ends .now) (l .at) (c .before .before .before .before .before .before .before .before .before .before .find .result) (c .before .before .before .before .before .before .before .before .id-part .result) (c .before .before .before .before .before .before .before .before .before .before .find .ensures) (c .before .before .before .before .before .before .before .before .id-part .ensures) _ _ _ _ (l .k) _ (l .inv .1) (l .inv .2) (c .before .before .before .before .before .put-range .ensures) (c .if1 .left))
+loop-again c =
+    let t = c .before .before .before .before .before in
+    (omega arith, starts-next t (c .if1 .left), ends-next t (c .if1 .left))
 
 pub write-ranges-spec : {M : Type 1} → statement M
 write-ranges-spec =

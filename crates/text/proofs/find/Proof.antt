@@ -21,7 +21,8 @@ shared-slice-read-if1 : tie.Need-shared-slice-read-if1 Inv-loop μ-loop
 shared-slice-read-if1 c = omega arith
 
 returns : tie.Need-returns Inv-loop μ-loop
-returns c = let at = c .before .before .before in
+returns c =
+    let at = c .before .before .before in
     let s = at .before .args .s .now in
     omega (arith, index-here (at .before .args .b) s (at .loop .i) (omega arith) (c .if1 .taken))
 
@@ -32,12 +33,14 @@ loop-less : tie.Need-loop-less Inv-loop μ-loop
 loop-less c = omega arith
 
 loop-again : tie.Need-loop-again Inv-loop μ-loop
-loop-again c = let at = c .before .before .before in
+loop-again c =
+    let at = c .before .before .before in
     let e = index-later (at .before .args .b) (at .before .args .s .now) (at .loop .i) (omega arith) (c .if1 .left) in
     simp add-one (omega arith, omega arith)
 
 returns-2 : tie.Need-returns-2 Inv-loop μ-loop
-returns-2 c = let at = c .before in
+returns-2 c =
+    let at = c .before in
     omega (arith, index-none (at .before .args .b) (at .before .args .s .now) (at .loop .i) (c .loop-test .left))
 
 pub find-spec : {M : Type 1} → statement M

@@ -1,5 +1,4 @@
 use borrow.Author.Needs.{needs}
-use Prim.Native.Nat.{_-_}
 use borrow.Author.Tests.{le-leb, lt-leb}
 use Rattle.text.proofs.fold_byte.Statement.{statement}
 use Rattle.text.proofs.fold_byte.Tie as tie

@@ -10,7 +10,8 @@ use Rattle.text.proofs.folds_to.Statement.{statement}
 use Rattle.text.proofs.folds_to.Tie as tie
 
 abbrev Inv-loop : tie.InvT-loop
-Inv-loop s spelling i₀ i = (i ≤ length s) × (length s ≡ length spelling) × (same (fold s) spelling ≡ same (fold (drop i s)) (drop i spelling))
+Inv-loop s spelling i₀ i = (i ≤ length s) × (length s ≡ length spelling) ×
+    (same (fold s) spelling ≡ same (fold (drop i s)) (drop i spelling))
 
 abbrev μ-loop : tie.MeasureT-loop
 μ-loop s spelling i₀ i = length s - i
@@ -37,19 +38,23 @@ loop-less : tie.Need-loop-less Inv-loop μ-loop
 loop-less c = omega arith
 
 loop-again : tie.Need-loop-again Inv-loop μ-loop
-loop-again c = let at = c .before .before .before .before .before in
+loop-again c =
+    let at = c .before .before .before .before .before in
     let a = at .before .before .before .before .args in
     let e = same-byte (a .s .now) (a .spelling .now) (at .loop .i) (omega arith) (at .loop .inv .1) (cc) in
     simp add-one (omega arith, at .loop .inv .1, cc)
 
 returns-2 : tie.Need-returns-2 Inv-loop μ-loop
-returns-2 c = let at = c .before .before .before .before .before in
+returns-2 c =
+    let at = c .before .before .before .before .before in
     let a = at .before .before .before .before .args in
-    let e = other-byte (a .s .now) (a .spelling .now) (at .loop .i) (omega arith) (at .loop .inv .1) (λ q. c .if2 .left (c .before .before .fold-byte .ensures ∙ q)) in
+    let e = other-byte (a .s .now) (a .spelling .now) (at .loop .i) (omega arith) (at .loop .inv .1)
+    (λ q. c .if2 .left (c .before .before .fold-byte .ensures ∙ q)) in
     cc
 
 returns-3 : tie.Need-returns-3 Inv-loop μ-loop
-returns-3 c = let at = c .before in
+returns-3 c =
+    let at = c .before in
     let a = at .before .before .before .before .args in
     sym (at .loop .inv .2 ∙ same-end (a .s .now) (a .spelling .now) (at .loop .i) (c .loop-test .left) (at .loop .inv .1))
 

@@ -23,7 +23,8 @@ shared-slice-read-if1 : tie.Need-shared-slice-read-if1 Inv-loop μ-loop
 shared-slice-read-if1 c = omega arith
 
 returns : tie.Need-returns Inv-loop μ-loop
-returns c = let at = c .before .before .before in
+returns c =
+    let at = c .before .before .before in
     let s = at .before .args .s .now in
     sym (at .loop .inv .1 ∙ any-here isHigh s (at .loop .i) (omega arith) (le-leb _ _ (c .if1 .taken)))
 
@@ -34,13 +35,15 @@ loop-less : tie.Need-loop-less Inv-loop μ-loop
 loop-less c = omega arith
 
 loop-again : tie.Need-loop-again Inv-loop μ-loop
-loop-again c = let at = c .before .before .before in
+loop-again c =
+    let at = c .before .before .before in
     let s = at .before .args .s .now in
     let e = any-later isHigh s (at .loop .i) (omega arith) (lt-leb _ _ (c .if1 .left)) in
     simp add-one (omega arith, at .loop .inv .1 ∙ e)
 
 returns-2 : tie.Need-returns-2 Inv-loop μ-loop
-returns-2 c = let at = c .before in
+returns-2 c =
+    let at = c .before in
     sym (at .loop .inv .1 ∙ any-none isHigh (at .before .args .s .now) (at .loop .i) (c .loop-test .left))
 
 pub has-high-byte-spec : {M : Type 1} → statement M

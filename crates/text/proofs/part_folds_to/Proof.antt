@@ -1,5 +1,5 @@
 use borrow.Author.Needs.{needs}
-use Prim.Native.Nat.{ℕ, _-_}
+use Prim.Native.Nat.{ℕ}
 use mathlib.Core.List.{List}
 use mathlib.Core.Path.{ap, _∙_}
 use Rattle.reading.specs.Text.{same, fold}
@@ -13,7 +13,8 @@ folds-to-requires : tie.Need-folds-to-requires
 folds-to-requires c κs = search needs
 
 returns : tie.Need-returns
-returns c = let w = c .before .before .before .before .args .spelling .now in
+returns c =
+    let w = c .before .before .before .before .args .spelling .now in
     c .folds-to .ensures ∙ ap (λ (t : List ℕ). same (fold t) w) (c .before .part-of .ensures)
 
 pub part-folds-to-spec : {M : Type 1} → statement M

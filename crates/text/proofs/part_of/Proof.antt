@@ -1,5 +1,4 @@
 use borrow.Author.Needs.{needs}
-use Prim.Native.Nat.{_-_}
 use mathlib.Core.Path.{sym, ap, _∙_}
 use native.Mathlib.Omega.{arith}
 use lib.ListN.{length, take}
@@ -17,7 +16,8 @@ part-result-end : tie.Need-part-result-end
 part-result-end c = search needs
 
 returns : tie.Need-returns
-returns c = let a = c .before .before .before .args in
+returns c =
+    let a = c .before .before .before .args in
     rest-none (a .text .now) (length (a .text .now)) (omega arith) ∙ sym (part-none (a .text .now) (a .p) (omega arith))
 
 sub-rest : tie.Need-sub-rest
@@ -30,16 +30,19 @@ part-rest-end : tie.Need-part-rest-end
 part-rest-end c = search needs
 
 returns-2 : tie.Need-returns-2
-returns-2 c = let a = c .before .before .before .before .before .args in
+returns-2 c =
+    let a = c .before .before .before .before .before .args in
     let e = rest-eq (a .text .now) (a .p .start) in
     e ∙ sym (part-rest (a .text .now) (a .p) (let z = ap length e in omega arith))
 
 slice-aggregate-result : tie.Need-slice-aggregate-result
-slice-aggregate-result c = let a = c .before .before .before .before .before .before .args in
+slice-aggregate-result c =
+    let a = c .before .before .before .before .before .before .args in
     front-length _ (a .p .len) (omega arith)
 
 returns-3 : tie.Need-returns-3
-returns-3 c = let a = c .before .before .before .before .before .before .args in
+returns-3 c =
+    let a = c .before .before .before .before .before .before .args in
     ap (take (a .p .len)) (rest-eq (a .text .now) (a .p .start))
 
 pub part-of-spec : {M : Type 1} → statement M

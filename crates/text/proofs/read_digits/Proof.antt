@@ -4,7 +4,8 @@ use native.Mathlib.Omega.{arith}
 use native.Mathlib.Numerals.{add-one}
 use lib.ListN.{length, drop}
 use Rattle.reading.specs.Text.{digits}
-use Rattle.text.proofs.Digits.{digitsFrom, digits-none, digits-start, digits-more, digits-low, digits-high, digits-large, digits-end}
+use Rattle.text.proofs.Digits.{digitsFrom, digits-none, digits-start, digits-more, digits-low, digits-high, digits-large}
+use Rattle.text.proofs.Digits.{digits-end}
 use Rattle.text.proofs.read_digits.Statement.{statement}
 use Rattle.text.proofs.read_digits.Tie as tie
 
@@ -24,12 +25,14 @@ shared-slice-read-b : tie.Need-shared-slice-read-b Inv-loop μ-loop
 shared-slice-read-b c = omega arith
 
 returns-2 : tie.Need-returns-2 Inv-loop μ-loop
-returns-2 c = let at = c .before .before .before in
+returns-2 c =
+    let at = c .before .before .before in
     let s = at .before .before .args .s .now in
     sym (at .loop .inv .2 ∙ digits-low (at .loop .v) s (at .loop .i) (omega arith) (c .if2 .taken))
 
 returns-3 : tie.Need-returns-3 Inv-loop μ-loop
-returns-3 c = let at = c .before .before .before .before in
+returns-3 c =
+    let at = c .before .before .before .before in
     let s = at .before .before .args .s .now in
     sym (at .loop .inv .2 ∙ digits-high (at .loop .v) s (at .loop .i) (omega arith) (c .if3 .taken))
 
@@ -40,7 +43,8 @@ sub-if4 : tie.Need-sub-if4 Inv-loop μ-loop
 sub-if4 c = omega arith
 
 returns-4 : tie.Need-returns-4 Inv-loop μ-loop
-returns-4 c = let at = c .before .before .before .before .before in
+returns-4 c =
+    let at = c .before .before .before .before .before in
     let s = at .before .before .args .s .now in
     sym (at .loop .inv .2 ∙ digits-large (at .loop .v) s (at .loop .i) (omega arith) (omega arith) (omega arith) (c .if4 .taken))
 
@@ -57,14 +61,17 @@ loop-less : tie.Need-loop-less Inv-loop μ-loop
 loop-less c = omega arith
 
 loop-again : tie.Need-loop-again Inv-loop μ-loop
-loop-again c = let at = c .before .before .before .before .before in
+loop-again c =
+    let at = c .before .before .before .before .before in
     let s = at .before .before .args .s .now in
     let e = digits-more (at .loop .v) s (at .loop .i) (omega arith) (omega arith) (omega arith) in
     simp add-one (omega arith, omega arith, at .loop .inv .2 ∙ e)
 
 returns-5 : tie.Need-returns-5 Inv-loop μ-loop
-returns-5 c = let at = c .before in
-    sym (at .loop .inv .2 ∙ digits-end (at .loop .v) (at .before .before .args .s .now) (at .loop .i) (c .loop-test .left) (at .loop .inv .1))
+returns-5 c =
+    let at = c .before in
+    sym (at .loop .inv .2 ∙ digits-end (at .loop .v) (at .before .before .args .s .now) (at .loop .i) (c .loop-test .left)
+    (at .loop .inv .1))
 
 pub read-digits-spec : {M : Type 1} → statement M
 read-digits-spec =

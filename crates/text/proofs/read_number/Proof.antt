@@ -1,5 +1,4 @@
 use borrow.Author.Needs.{needs}
-use Prim.Native.Nat.{_-_}
 use mathlib.Core.Path.{sym, ap, _∙_}
 use Rattle.reading.specs.Text.{digits}
 use Rattle.text.proofs.Slices.{rest-eq}
@@ -26,14 +25,17 @@ read-digits-requires : tie.Need-read-digits-requires
 read-digits-requires c κs = search needs
 
 returns-2 : tie.Need-returns-2
-returns-2 c = let s = c .before .before .before .before .before .before .args .s .now in
-    c .read-digits .ensures ∙ (ap digits (rest-eq s 1) ∙ sym (number-plus s (c .before .before .before .before .if1 .left) (c .before .before .if2 .taken)))
+returns-2 c =
+    let s = c .before .before .before .before .before .before .args .s .now in
+    c .read-digits .ensures ∙ (ap digits (rest-eq s 1) ∙ sym
+    (number-plus s (c .before .before .before .before .if1 .left) (c .before .before .if2 .taken)))
 
 read-digits-requires-2 : tie.Need-read-digits-requires-2
 read-digits-requires-2 c κs = search needs
 
 returns-3 : tie.Need-returns-3
-returns-3 c = let s = c .before .before .before .before .before .args .s .now in
+returns-3 c =
+    let s = c .before .before .before .before .before .args .s .now in
     c .read-digits2 .ensures ∙ sym (number-plain s (c .before .before .before .if1 .left) (c .before .if2 .left))
 
 pub read-number-spec : {M : Type 1} → statement M

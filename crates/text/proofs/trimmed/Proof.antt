@@ -1,5 +1,4 @@
 use borrow.Author.Needs.{needs}
-use Prim.Native.Nat.{_-_}
 use mathlib.Core.Path.{ap, _∙_}
 use Rattle.reading.specs.Text.{trim, trimEnd}
 use Rattle.text.proofs.trimmed.Statement.{statement}

@@ -1,5 +1,5 @@
 use borrow.Author.Needs.{needs}
-use Prim.Native.Nat.{_-_, _≤_}
+use Prim.Native.Nat.{_≤_}
 use mathlib.Core.Path.{_≡_, sym, ap, _∙_}
 use native.Mathlib.Omega.{arith}
 use lib.ListN.{length, take}
@@ -17,7 +17,8 @@ abbrev μ-loop : tie.MeasureT-loop
 μ-loop s n₀ n = n
 
 loop-holds : tie.Need-loop-holds Inv-loop μ-loop
-loop-holds c = let s = c .before .args .s .now in
+loop-holds c =
+    let s = c .before .args .s .now in
     (omega arith, ap trimEnd (sym (take-all (length s) s (omega arith))))
 
 sub-is-blank : tie.Need-sub-is-blank Inv-loop μ-loop
@@ -36,25 +37,30 @@ loop-less : tie.Need-loop-less Inv-loop μ-loop
 loop-less c = omega arith
 
 loop-again : tie.Need-loop-again Inv-loop μ-loop
-loop-again c = let at = c .before .before .before .before in
+loop-again c =
+    let at = c .before .before .before .before in
     let s = at .before .before .args .s .now in
     (omega arith, at .loop .inv .1 ∙ back-blank s (at .loop .n) (omega arith) (at .loop .inv .0) (cc))
 
 slice-aggregate-result : tie.Need-slice-aggregate-result Inv-loop μ-loop
-slice-aggregate-result c = let at = c .before .before .before .before .before in
+slice-aggregate-result c =
+    let at = c .before .before .before .before .before in
     front-length (at .before .before .args .s .now) (at .loop .n) (at .loop .inv .0)
 
 returns : tie.Need-returns Inv-loop μ-loop
-returns c = let at = c .before .before .before .before .before in
+returns c =
+    let at = c .before .before .before .before .before in
     let s = at .before .before .args .s .now in
     sym (at .loop .inv .1 ∙ back-other s (at .loop .n) (omega arith) (at .loop .inv .0) (cc))
 
 slice-aggregate-result-2 : tie.Need-slice-aggregate-result-2 Inv-loop μ-loop
-slice-aggregate-result-2 c = let at = c .before .before in
+slice-aggregate-result-2 c =
+    let at = c .before .before in
     front-length (at .before .before .args .s .now) (at .loop .n) (at .loop .inv .0)
 
 returns-2 : tie.Need-returns-2 Inv-loop μ-loop
-returns-2 c = let at = c .before .before in
+returns-2 c =
+    let at = c .before .before in
     sym (at .loop .inv .1 ∙ back-none (at .before .before .args .s .now) (at .loop .n) (omega arith))
 
 pub trimmed-end-spec : {M : Type 1} → statement M

@@ -32,7 +32,8 @@ loop-less : tie.Need-loop-less Inv-loop μ-loop
 loop-less c = omega arith
 
 loop-again : tie.Need-loop-again Inv-loop μ-loop
-loop-again c = let at = c .before .before .before .before in
+loop-again c =
+    let at = c .before .before .before .before in
     let s = at .before .before .args .s .now in
     let e = start-blank s (at .loop .i) (omega arith) (cc) in
     simp add-one (omega arith, at .loop .inv .1 ∙ e)
@@ -47,7 +48,8 @@ part-result-end : tie.Need-part-result-end Inv-loop μ-loop
 part-result-end c = omega arith
 
 returns : tie.Need-returns Inv-loop μ-loop
-returns c = let at = c .before .before .before .before .before in
+returns c =
+    let at = c .before .before .before .before .before in
     let s = at .before .before .args .s .now in
     rest-eq s (at .loop .i) ∙ sym (at .loop .inv .1 ∙ start-other s (at .loop .i) (omega arith) (cc))
 
@@ -61,7 +63,8 @@ part-result-end-2 : tie.Need-part-result-end-2 Inv-loop μ-loop
 part-result-end-2 c = omega arith
 
 returns-2 : tie.Need-returns-2 Inv-loop μ-loop
-returns-2 c = let at = c .before .before in
+returns-2 c =
+    let at = c .before .before in
     let s = at .before .before .args .s .now in
     rest-eq s (at .loop .i) ∙ sym (at .loop .inv .1 ∙ start-none s (at .loop .i) (omega arith))
 
