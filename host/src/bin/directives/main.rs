@@ -1,11 +1,12 @@
 //! directives [--planted FAULT] [N [SEED]]
+//! directives --faults
 //!
 //! Feeds N random and damaged directives to the proved reader, through the static library, and to the published Rust's
 //! `CtlDirective::parse`, and compares the two in full: the directive, every range, where a target is cut, and every
 //! entry of the lent lists. Expected results come from the Rust and from 01's rules for refusals 2, 6 and 7 alone.
 //! The last line is `N directives, D differences`; the exit status is 1 where D is not 0.
 //!
-//! With --planted a wrong reader stands in for ours, which must be found.
+//! With --planted a wrong reader stands in for ours, which must be found; --faults lists them.
 
 mod compare;
 mod measure;
@@ -33,10 +34,12 @@ struct Options {
 
 fn main() -> ExitCode {
     let words: Vec<String> = env::args().skip(1).collect();
+    if words == ["--faults"] {
+        FAULTS.iter().for_each(|(name, _)| println!("{name}"));
+        return ExitCode::SUCCESS;
+    }
     let Some(options) = options(&words) else {
-        eprintln!("usage: directives [--planted FAULT] [N [SEED]]");
-        let names: Vec<&str> = FAULTS.iter().map(|fault| fault.0).collect();
-        eprintln!("faults: {}", names.join(" "));
+        eprintln!("usage: directives [--planted FAULT] [N [SEED]], or directives --faults");
         return ExitCode::from(2);
     };
     let differences = run(&options);
