@@ -83,7 +83,9 @@ pub extern "C" fn tivembo_read_directive(
     starts: &mut [u64],
     ends: &mut [u64],
 ) -> ReadRecord
-    ensures { λ r. ⌜ Recorded (readerOutcome (now (name .entry)) (now (value .entry)) (now (starts .entry)) (now (ends .entry))) r (now (starts .exit)) (now (ends .exit)) ⌝ }
+    ensures { λ r. ⌜ Recorded
+        (readerOutcome (now (name .entry)) (now (value .entry)) (now (starts .entry)) (now (ends .entry)))
+        r (now (starts .exit)) (now (ends .exit)) ⌝ }
 {
     let read = directive::read_directive(name, value, starts, ends);
     let d = read.directive;
