@@ -1,3 +1,2 @@
 -- Laws of the definitions of a directive, for the proofs of several functions.
 pub mod Values
-pub mod Reading

@@ -3,9 +3,9 @@
 // A row is seven numbers of five digits, each with one byte behind it: the lengths of name and value
 // in the row, how many fill bytes stand before each of them in its text, the fill byte, and the lengths
 // of the two lists; then name and value, and one byte more. oracle/make-directive-table writes the table.
-use directive::DirectiveRead;
 use libc::STDIN_FILENO;
 use libc::STDOUT_FILENO;
+use reader::DirectiveRead;
 use reading::BodyAccess;
 use reading::BodyProcessor;
 use reading::CtlDirective;
@@ -254,7 +254,7 @@ fn run_texts(row: Row, name: &mut [u8], value: &mut [u8], starts: &mut [u64], en
     io::read_full(STDIN_FILENO, &mut line_end);
     let s = least(row.starts, starts.len());
     let e = least(row.ends, ends.len());
-    let read = directive::read_directive(
+    let read = reader::read_directive(
         &name[..name_end],
         &value[..value_end],
         &mut starts[0..s],

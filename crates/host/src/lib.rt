@@ -1,5 +1,5 @@
 // The directive reader as C and Rust call it: a directive's enum goes over as two numbers.
-use directive::DirectiveRead;
+use reader::DirectiveRead;
 use reading::BodyAccess;
 use reading::BodyProcessor;
 use reading::CtlDirective;
@@ -87,7 +87,7 @@ pub extern "C" fn tivembo_read_directive(
         (readerOutcome (now (name .entry)) (now (value .entry)) (now (starts .entry)) (now (ends .entry)))
         r (now (starts .exit)) (now (ends .exit)) ⌝ }
 {
-    let read = directive::read_directive(name, value, starts, ends);
+    let read = reader::read_directive(name, value, starts, ends);
     let d = read.directive;
     ReadRecord {
         answer: read.answer,

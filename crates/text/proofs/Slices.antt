@@ -5,8 +5,6 @@ use mathlib.Core.List.{List, []}
 use native.Mathlib.Omega.{arith}
 use lib.ListN.{length, take, drop, length-drop, drop-of-length-le}
 use lib.Seq.{take-all, take-nil, length-take-le}
-use Rattle.reading.specs.declared.Part.{Part}
-use Rattle.reading.specs.Text.{partOf}
 
 module _ {A : Type 0} where
   -- `&s[a..]`
@@ -20,11 +18,3 @@ module _ {A : Type 0} where
   -- `&s[..n]` asks for its length
   pub front-length : (s : List A) (n : ℕ) → n ≤ length s → n ≡ length (take n s)
   front-length s n h = sym (length-take-le n s h)
-
--- what `part_of` answers: nothing behind the text, the text's rest, or so many bytes of it
-module _ (text : List ℕ) (p : Part) where
-  pub part-none : length text ≤ p .start → partOf text p ≡ []
-  part-none h = rw (drop-of-length-le text h) (take-nil (p .len))
-
-  pub part-rest : length (drop (p .start) text) ≤ p .len → partOf text p ≡ drop (p .start) text
-  part-rest h = take-all (p .len) (drop (p .start) text) h

@@ -1,7 +1,7 @@
 use borrow.Author.Needs.{needs}
 use mathlib.Core.Path.{sym, ap, _∙_}
 use Rattle.reading.specs.Directive.{withoutLists}
-use Rattle.directive.specs.Reader.{accessBy}
+use Rattle.directive.specs.Settings.{accessBy}
 use Rattle.directive.proofs.request_body_access.Statement.{statement}
 use Rattle.directive.proofs.request_body_access.Tie as tie
 

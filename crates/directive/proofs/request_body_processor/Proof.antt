@@ -1,7 +1,7 @@
 use borrow.Author.Needs.{needs}
 use mathlib.Core.Path.{sym, ap, _∙_}
 use Rattle.reading.specs.Directive.{withoutLists}
-use Rattle.directive.specs.Reader.{processorBy}
+use Rattle.directive.specs.Settings.{processorBy}
 use Rattle.directive.proofs.request_body_processor.Statement.{statement}
 use Rattle.directive.proofs.request_body_processor.Tie as tie
 

@@ -1,7 +1,7 @@
 use borrow.Author.Needs.{needs}
 use mathlib.Core.Path.{sym, ap, _∙_}
 use Rattle.reading.specs.Directive.{withoutLists}
-use Rattle.directive.specs.Reader.{engineBy}
+use Rattle.directive.specs.Settings.{engineBy}
 use Rattle.directive.proofs.rule_engine.Statement.{statement}
 use Rattle.directive.proofs.rule_engine.Tie as tie
 

@@ -2,9 +2,10 @@ use borrow.Author.Needs.{needs}
 use mathlib.Core.Path.{sym, ap, _∙_}
 use native.Mathlib.Omega.{arith}
 use lib.ListN.{length, take}
-use Rattle.text.proofs.Slices.{rest-eq, rest-none, front-length, part-none, part-rest}
-use Rattle.text.proofs.part_of.Statement.{statement}
-use Rattle.text.proofs.part_of.Tie as tie
+use Rattle.text.proofs.Slices.{rest-eq, rest-none, front-length}
+use Rattle.parts.proofs.Clipped.{part-none, part-rest}
+use Rattle.parts.proofs.part_of.Statement.{statement}
+use Rattle.parts.proofs.part_of.Tie as tie
 
 sub-result : tie.Need-sub-result
 sub-result c = search needs

@@ -1,8 +1,8 @@
 use borrow.Author.Needs.{needs}
 use mathlib.Core.Path.{ap, _∙_}
 use Rattle.reading.specs.Text.{numberOf}
-use Rattle.text.proofs.part_number.Statement.{statement}
-use Rattle.text.proofs.part_number.Tie as tie
+use Rattle.parts.proofs.part_number.Statement.{statement}
+use Rattle.parts.proofs.part_number.Tie as tie
 
 part-of-requires : tie.Need-part-of-requires
 part-of-requires c κs = search needs

@@ -4,15 +4,15 @@ use mathlib.Core.Path.{_≡_, refl, sym, ap, _∙_}
 use native.Mathlib.Omega.{arith}
 use lib.ListN.{length}
 use Rattle.reading.specs.Directive.{directiveOf, rangesOf, startOf, endOf, readerAnswer, readerOutcome}
-use Rattle.directive.specs.declared.DirectiveRead.{DirectiveRead}
-use Rattle.directive.specs.Reader.{rangesCounted, turnedAway, outcomeFound}
+use Rattle.reader.specs.declared.DirectiveRead.{DirectiveRead}
+use Rattle.reader.specs.Reader.{rangesCounted, turnedAway, outcomeFound}
 use lib.Dec.{eqb}
-use Rattle.directive.proofs.Reading.{TextsPass, counted, refused, accepted, name-long, value-long, name-high, value-high}
-use Rattle.directive.proofs.Reading.{too-short, fits, unwritten, starts-written, ends-written}
+use Rattle.reader.proofs.Reading.{TextsPass, counted, refused, accepted, name-long, value-long, name-high, value-high}
+use Rattle.reader.proofs.Reading.{too-short, fits, unwritten, starts-written, ends-written}
 use mathlib.Core.Bool.{false}
 use mathlib.Core.List.{List}
-use Rattle.directive.proofs.read_directive.Statement.{statement}
-use Rattle.directive.proofs.read_directive.Tie as tie
+use Rattle.reader.proofs.read_directive.Statement.{statement}
+use Rattle.reader.proofs.read_directive.Tie as tie
 
 -- the call's texts and lists
 abbrev name : tie.Start → List ℕ

@@ -3,8 +3,8 @@ use Prim.Native.Nat.{ℕ}
 use mathlib.Core.List.{List}
 use mathlib.Core.Path.{ap, _∙_}
 use Rattle.reading.specs.Text.{same, fold}
-use Rattle.text.proofs.part_folds_to.Statement.{statement}
-use Rattle.text.proofs.part_folds_to.Tie as tie
+use Rattle.parts.proofs.part_folds_to.Statement.{statement}
+use Rattle.parts.proofs.part_folds_to.Tie as tie
 
 part-of-requires : tie.Need-part-of-requires
 part-of-requires c κs = search needs

@@ -18,7 +18,7 @@ use Rattle.reading.specs.Directive.{requestBodyProcessor, unsupported, engineVa
 use Rattle.reading.specs.Directive.{targetValue, directiveNamed, directiveOf, rangesOf, isHigh, readerAnswer, withoutLists, startOf}
 use Rattle.reading.specs.Directive.{endOf, ReaderOutcome, readerOutcome}
 use Rattle.ranges.specs.Ranges.{allFitting, Written}
-use Rattle.directive.specs.Reader.{rangesCounted}
+use Rattle.reader.specs.Reader.{rangesCounted}
 
 -- a directive without its lists still says how many ranges there are
 pub counted : (lent : List ℕ) (d : Directive) → rangesCounted (withoutLists lent d) ≡ length (rangesOf d)

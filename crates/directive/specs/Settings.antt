@@ -1,0 +1,18 @@
+-- How a setting stands for the definition of a directive.
+use Rattle.reading.specs.declared.ModeSetting.{ModeSetting}
+use Rattle.reading.specs.declared.AccessSetting.{AccessSetting}
+use Rattle.reading.specs.declared.ProcessorSetting.{ProcessorSetting}
+use Rattle.reading.specs.Directive.{Directive, ruleEngine, requestBodyAccess, requestBodyProcessor, unsupported}
+
+-- the directive that sets a mode, an access or a processor; none is unsupported
+abbrev pub engineBy : ModeSetting → Directive
+engineBy (ModeSetting.Set m) = ruleEngine m
+engineBy ModeSetting.Unset = unsupported
+
+abbrev pub accessBy : AccessSetting → Directive
+accessBy (AccessSetting.Set a) = requestBodyAccess a
+accessBy AccessSetting.Unset = unsupported
+
+abbrev pub processorBy : ProcessorSetting → Directive
+processorBy (ProcessorSetting.Set p) = requestBodyProcessor p
+processorBy ProcessorSetting.Unset = unsupported
