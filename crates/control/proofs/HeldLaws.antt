@@ -82,8 +82,8 @@ module _ (c : Controls) (new : List RuleIdRange) (answer : ℕ) where
       handed-back c n answer after e (rw k (ap (reading.withRanges (controlsOf c)) (sym (append-nil (controlsOf c .ranges)))))
 
   all-added : answer ≡ 0 → c .ranges + length new ≤ length (c .starts) → c .ranges + length new ≤ length (c .ends)
-      → (starts ends : List ℕ) (count : ℕ) → starts ≡ sets (c .starts) (c .ranges) (map startOf new) → ends ≡ sets (c .ends) (c .ranges) (map endOf new)
-      → count ≡ c .ranges + length new
+      → (starts ends : List ℕ) (count : ℕ) → starts ≡ sets (c .starts) (c .ranges) (map startOf new)
+      → ends ≡ sets (c .ends) (c .ranges) (map endOf new) → count ≡ c .ranges + length new
       → Added c (grown c starts ends count) answer after
   unfolding controlsOf
   all-added e hs he starts ends count es ee en =
@@ -162,7 +162,7 @@ module _ (c : Controls) (t : Bool) (is : t ≡ (ltb 256 (c .ranges) || ltb 64 (c
       (range-answer r ∙ rw (e, le-ltb (r .end) (r .start) o, lt-leb 256 (c .ranges) h))
       (omega arith) (omega arith) _ _ _ refl refl refl
 
-  -- what `write_ranges` leaves in the parts behind those in use is handed back as s and e
+  -- what `write_ranges` leaves in the parts behind those in use comes back as s and e
   pub ranges-added : (v s e : List ℕ) (rs : List RuleIdRange) (n : ℕ) → length (c .starts) ≡ 256 → length (c .ends) ≡ 256 → t ≡ false
       → rs ≡ rangesIn (idParts v) → length rs ≡ n → c .ranges + n ≤ 256
       → Written v (take (256 - c .ranges) (drop (c .ranges) (c .starts))) (take (256 - c .ranges) (drop (c .ranges) (c .ends))) s e

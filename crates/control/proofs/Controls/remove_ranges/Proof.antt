@@ -34,7 +34,8 @@ counted : (c : tie.After-known-told)
     → (new (first c .before .before .before) ≡ rangesIn (idParts (c .before .before .before .before .trimmed .result .now)))
     × (length (new (first c .before .before .before)) ≡ c .before .n .given .0 .0)
 counted c =
-    some-counted _ _ (c .before .before .before .before .trimmed .ensures) _ (sym (c .before .before .before .count-ranges .ensures) ∙ c .before .n .given .1)
+    some-counted _ _ (c .before .before .before .before .trimmed .ensures) _
+    (sym (c .before .before .before .count-ranges .ensures) ∙ c .before .n .given .1)
 
 is-beyond-requires : tie.Need-is-beyond-requires
 is-beyond-requires c κs = search needs
@@ -66,8 +67,9 @@ sub-if2 c = omega (arith, few (first c))
 returns-3 : tie.Need-returns-3
 returns-3 c =
     let e = first (c .before) in
+    let s = e .before .before .before in
     let n = counted (c .before) .1 in
-    ranges-many (e .before .before .before .args .self) _ (e .before .is-beyond .ensures) (new (e .before .before .before)) (e .if1 .left) (omega arith)
+    ranges-many (s .args .self) _ (e .before .is-beyond .ensures) (new s) (e .if1 .left) (omega arith)
 
 mul-starts : tie.Need-mul-starts
 mul-starts c = omega (arith, few (first (c .before .before .before)))
@@ -79,7 +81,9 @@ part-starts-start : tie.Need-part-starts-start
 part-starts-start c = omega (arith, few (first (c .before .before .before)))
 
 part-starts-end : tie.Need-part-starts-end
-part-starts-end c = omega (arith, few (first (c .before .before .before)), starts-length (first (c .before .before .before) .before .before .before))
+part-starts-end c =
+    let e = first (c .before .before .before) in
+    omega (arith, few e, starts-length (e .before .before .before))
 
 mul-ends : tie.Need-mul-ends
 mul-ends c = omega (arith, few (first (c .before .before .before .before)))
@@ -91,7 +95,9 @@ part-ends-start : tie.Need-part-ends-start
 part-ends-start c = omega (arith, few (first (c .before .before .before .before)))
 
 part-ends-end : tie.Need-part-ends-end
-part-ends-end c = omega (arith, few (first (c .before .before .before .before)), ends-length (first (c .before .before .before .before) .before .before .before))
+part-ends-end c =
+    let e = first (c .before .before .before .before) in
+    omega (arith, few e, ends-length (e .before .before .before))
 
 write-ranges-requires : tie.Need-write-ranges-requires
 write-ranges-requires c κs = search needs
