@@ -1,14 +1,13 @@
 -- Laws of the list that two arrays and a count stand for. Assumes nothing.
-use Prim.Native.Nat.{ℕ, zero, suc, _+_, _≤_, _<_}
+use Prim.Native.Nat.{ℕ, zero, suc, _≤_, _<_}
 use mathlib.Core.Path.{_≡_, refl, ap, _∙_}
 use mathlib.Core.Bool.{Bool, true, false, _||_, or-true}
 use mathlib.Core.List.{List, [], _∷_, _++_}
 use native.Mathlib.Omega.{arith}
 use borrow.Author.Tests.{ltb-true, ltb-false}
-use native.Mathlib.Numerals.{add-one}
 use lib.Dec.{ltb}
-use lib.ListN.{length, drop, getD, set, length-append}
-use lib.Seq.{getD-set-same, getD-set-other, drop-set-lt}
+use lib.ListN.{length, getD, set, length-append}
+use lib.Seq.{getD-set-other}
 use Rattle.reading.specs.declared.RuleIdRange.{RuleIdRange}
 use Rattle.reading.specs.declared.Place.{Place}
 use Rattle.reading.specs.declared.OptionPlace.{OptionPlace}
@@ -36,7 +35,7 @@ module _ {A : Type 0} (make : ℕ → ℕ → A) (xs ys : List ℕ) where
   length-pairs (suc n) = omega (arith, length-append (pairList make n xs ys) (make (getD xs n 0) (getD ys n 0) ∷ []), length-pairs n)
 
   -- a place behind those counted is not looked at
-  pairs-behind : (n k x y : ℕ) → n ≤ k → pairList make n (set xs k x) (set ys k y) ≡ pairList make n xs ys
+  pub pairs-behind : (n k x y : ℕ) → n ≤ k → pairList make n (set xs k x) (set ys k y) ≡ pairList make n xs ys
   pairs-behind zero k x y h = refl
   pairs-behind (suc n) k x y h =
       rw (
@@ -44,25 +43,6 @@ module _ {A : Type 0} (make : ℕ → ℕ → A) (xs ys : List ℕ) where
         getD-set-other xs k n x 0 (λ e. omega arith),
         getD-set-other ys k n y 0 (λ e. omega arith),
       )
-
-  -- what is left where both arrays are written at the count: one entry more in the list, and the places behind it as found
-  pub record Stored (n x y : ℕ) : Type 0 where
-    pub list : pairList make (n + 1) (set xs n x) (set ys n y) ≡ pairList make n xs ys ++ (make x y ∷ [])
-    pub firsts : drop (n + 1) (set xs n x) ≡ drop (n + 1) xs
-    pub seconds : drop (n + 1) (set ys n y) ≡ drop (n + 1) ys
-
-  pub stored : (n x y size : ℕ) → length xs ≡ size → length ys ≡ size → n < size → Stored n x y
-  stored n x y size lx ly h =
-      record {
-        list = rw (
-          add-one,
-          pairs-behind n n x y (omega arith),
-          getD-set-same xs n x 0 (omega arith),
-          getD-set-same ys n y 0 (omega arith),
-        );
-        firsts = drop-set-lt (n + 1) xs n x (omega arith);
-        seconds = drop-set-lt (n + 1) ys n y (omega arith);
-      }
 
   -- an entry that passes a test
   pub any-passed : (test : A → Bool) (n k : ℕ) → k < n → test (make (getD xs k 0) (getD ys k 0)) ≡ true

@@ -1,5 +1,5 @@
 -- What the directives of a transaction have set (`TransactionControls`), as lists without a limit.
-use Prim.Native.Nat.{ℕ, zero, suc}
+use Prim.Native.Nat.{ℕ, zero, suc, _+_}
 use mathlib.Core.Bool.{Bool, true, false, cond, _&&_, _||_}
 use mathlib.Core.List.{List, [], _∷_, _++_}
 use lib.ListN.{length, getD}
@@ -156,9 +156,16 @@ addRangeAnswer c r = cond (beyondLimits c) 3 (cond (ltb (r .end) (r .start)) 5 (
 unfoldable pub addTargetAnswer : Controls → ℕ
 addTargetAnswer c = cond (beyondLimits c) 3 (cond (leb mostTargets (length (c .targets))) 9 0)
 
+-- the ranges of one directive added together: all of them, or none where they do not fit (refusals 3 and 8)
+unfoldable pub addRangesAnswer : Controls → List RuleIdRange → ℕ
+addRangesAnswer c rs = cond (beyondLimits c) 3 (cond (ltb mostRanges (length (c .ranges) + length rs)) 8 0)
+
 -- the controls after an addition: as before where the answer is not 0
 abbrev pub withRange : Controls → RuleIdRange → Controls
 withRange c r = withRanges c (addRanges (c .ranges) (keep (eqb (addRangeAnswer c r) 0) (r ∷ [])))
+
+abbrev pub withAllRanges : Controls → List RuleIdRange → Controls
+withAllRanges c rs = withRanges c (addRanges (c .ranges) (keep (eqb (addRangesAnswer c rs) 0) rs))
 
 abbrev pub withTarget : Controls → Place → Controls
 withTarget c at = withTargets c (cond (eqb (addTargetAnswer c) 0) (addTarget (c .targets) at) (c .targets))

@@ -1,6 +1,5 @@
 use borrow.Author.Needs.{needs}
-use mathlib.Core.Path.{_≡_, sym, _∙_}
-use native.Mathlib.Omega.{arith}
+use mathlib.Core.Path.{_≡_, refl, sym, _∙_}
 use lib.ListN.{length, length-map}
 use borrow.Author.Tests.{lt-ltb, le-ltb, le-leb}
 use Rattle.control.proofs.HeldLaws.{range-refused, range-added}
@@ -21,19 +20,19 @@ is-beyond-requires c κs = search needs
 returns : tie.Need-returns
 returns c =
     let s = c .before .before in
-    range-refused (s .args .t1) _ (c .before .is-beyond .ensures) (s .args .range) 3 (rw (c .if1 .taken)) (omega arith)
+    range-refused (s .args .t1) _ (c .before .is-beyond .ensures) (s .args .range) 3 (rw (c .if1 .taken)) refl
 
 returns-2 : tie.Need-returns-2
 returns-2 c =
     let s = c .before .before .before .before in
     range-refused (s .args .t1) _ (c .before .before .before .is-beyond .ensures) (s .args .range) 5
-    (rw (c .before .before .if1 .left, lt-ltb _ _ (c .if2 .taken))) (omega arith)
+    (rw (c .before .before .if1 .left, lt-ltb _ _ (c .if2 .taken))) refl
 
 returns-3 : tie.Need-returns-3
 returns-3 c =
     let s = c .before .before .before .before .before in
     range-refused (s .args .t1) _ (c .before .before .before .before .is-beyond .ensures) (s .args .range) 8
-    (rw (c .before .before .before .if1 .left, le-ltb _ _ (c .before .if2 .left), le-leb _ _ (c .if3 .taken))) (omega arith)
+    (rw (c .before .before .before .if1 .left, le-ltb _ _ (c .before .if2 .left), le-leb _ _ (c .if3 .taken))) refl
 
 add-after : tie.Need-add-after
 add-after c = search needs
