@@ -13,13 +13,13 @@ use Rattle.reading.specs.declared.Place.{Place}
 use Rattle.reading.specs.Lists.{keep}
 use Rattle.reading.specs.Text.{idParts, rangesIn}
 use Rattle.reading.specs.Directive.{startOf, endOf}
-use Rattle.reading.specs.Controls.{beyondLimits, asked, addRangeAnswer, addRangesAnswer, addTargetAnswer, withRange, withAllRanges, withTarget}
+use Rattle.reading.specs.Controls.{beyondLimits, addRangeAnswer, addRangesAnswer, addTargetAnswer, withRange, withAllRanges, withTarget}
 use Rattle.reading.specs.Controls as reading
 use Rattle.ranges.specs.Ranges.{Written}
 use Rattle.control.specs.declared.Controls.{Controls}
 use Rattle.control.specs.declared.Changed.{Changed}
-use Rattle.control.specs.Held.{controlsOf, Added, Answered}
-use Rattle.control.proofs.PairLaws.{rangeOf, placeOf, length-pairs}
+use Rattle.control.specs.Held.{controlsOf, Added}
+use Rattle.removal.proofs.PairLaws.{rangeOf, placeOf, length-pairs}
 use Rattle.control.proofs.RunLaws.{drop-sets, pairs-sets, handed, written-behind}
 
 ranges-length : (c : Controls) → length (controlsOf c .ranges) ≡ c .ranges
@@ -30,7 +30,7 @@ pub targets-length : (c : Controls) → length (controlsOf c .targets) ≡ c .ta
 unfolding controlsOf
 targets-length c = length-pairs placeOf (c .phases) (c .positions) (c .targets)
 
-beyond : (c : Controls) → beyondLimits (controlsOf c) ≡ (ltb 256 (c .ranges) || ltb 64 (c .targets))
+pub beyond : (c : Controls) → beyondLimits (controlsOf c) ≡ (ltb 256 (c .ranges) || ltb 64 (c .targets))
 unfolding beyondLimits
 beyond c = rw (ranges-length c, targets-length c)
 
@@ -101,18 +101,8 @@ module _ (c : Controls) (new : List RuleIdRange) (answer : ℕ) where
         refused = λ z. absurd (z e);
       })
 
--- a question or an addition to controls beyond their limits, and to others: t is what `is_beyond` gave
+-- an addition to controls beyond their limits, and to others: t is what `is_beyond` gave
 module _ (c : Controls) (t : Bool) (is : t ≡ (ltb 256 (c .ranges) || ltb 64 (c .targets))) where
-  pub refuses : {A : Type 0} (value other : A) → t ≡ true → Answered 3 other (asked (controlsOf c) value other)
-  refuses value other e =
-      let b : beyondLimits (controlsOf c) ≡ true = beyond c ∙ (sym is ∙ e) in
-      record { answer-is = rw b; value-is = rw b }
-
-  pub gives : {A : Type 0} (value other given : A) → t ≡ false → given ≡ value → Answered 0 given (asked (controlsOf c) value other)
-  gives value other given e v =
-      let b : beyondLimits (controlsOf c) ≡ false = beyond c ∙ (sym is ∙ e) in
-      record { answer-is = rw b; value-is = rw b v }
-
   range-answer : (r : RuleIdRange)
       → addRangeAnswer (controlsOf c) r ≡ cond t 3 (cond (ltb (r .end) (r .start)) 5 (cond (leb 256 (c .ranges)) 8 0))
   unfolding addRangeAnswer

@@ -1,5 +1,3 @@
-pub mod PairLaws
 pub mod RunLaws
-pub mod RemovalLaws
 pub mod HeldLaws
 pub mod Determined

@@ -5,7 +5,7 @@ use lib.ListN.{drop, replicate}
 use Rattle.reading.specs.declared.ModeSetting.{ModeSetting}
 use Rattle.reading.specs.declared.AccessSetting.{AccessSetting}
 use Rattle.reading.specs.declared.ProcessorSetting.{ProcessorSetting}
-use Rattle.reading.specs.Controls.{rangeList, targetList, noControls, Asked}
+use Rattle.reading.specs.Controls.{rangeList, targetList, noControls}
 use Rattle.reading.specs.Controls as reading
 use Rattle.control.specs.declared.Controls.{Controls}
 use Rattle.control.specs.declared.Changed.{Changed}
@@ -52,8 +52,3 @@ pub record Added (before : Controls) (r : Changed) (answer : ℕ) (c : reading.C
   pub answer-is : r .answer ≡ answer
   pub became : Became before (r .controls) c
   pub refused : (answer ≡ 0 → ⊥) → r .controls ≡ before
-
--- a question: the answer, and the value or what stands in for it
-pub record Answered {A : Type 0} (answer : ℕ) (value : A) (q : Asked A) : Type 0 where
-  pub answer-is : answer ≡ q .answer
-  pub value-is : value ≡ q .value

@@ -5,23 +5,19 @@ use reading::AccessSetting;
 use reading::BodyAccess;
 use reading::BodyProcessor;
 use reading::ModeSetting;
-use reading::OptionPlace;
-use reading::OptionU64;
 use reading::Place;
 use reading::ProcessorSetting;
 use reading::RuleEngineMode;
 use reading::RuleIdRange;
 ghost use mathlib.Core.Path.{_≡_};
 ghost use mathlib.Core.Bool.{_||_};
-ghost use Prim.Native.Nat.{min};
 ghost use lib.Dec.{ltb};
 ghost use Rattle.reading.specs.Controls.{withMode, withAccess, withProcessor, withRange, withTarget, addRangeAnswer, addTargetAnswer};
 ghost use Rattle.reading.specs.Controls.{withAllRanges, addRangesAnswer};
 ghost use Rattle.reading.specs.Text.{trim};
 ghost use Rattle.reading.specs.Directive.{removalValue, rangesOf};
-ghost use Rattle.reading.specs.Controls.{askMode, askRemoved, askTargetCount, askTarget, askAccess, askProcessor};
-ghost use Rattle.reading.specs.Controls.{isRemoved, inRange, rangeList, modeOr, accessOf, mostRanges, mostTargets};
-ghost use Rattle.control.specs.Held.{controlsOf, New, Became, Added, Answered};
+ghost use Rattle.reading.specs.Controls.{modeOr, mostRanges, mostTargets};
+ghost use Rattle.control.specs.Held.{controlsOf, New, Became, Added};
 
 // The mode, the body access and the body processor, each set or not.
 pub struct Settings {
@@ -47,39 +43,8 @@ pub struct Changed {
     pub controls: Controls,
 }
 
-// The answers to questions: 0 and the value, or 3.
-pub struct ModeAnswer {
-    pub answer: u64,
-    pub mode: RuleEngineMode,
-}
-
-pub struct RemovedAnswer {
-    pub answer: u64,
-    pub removed: bool,
-}
-
-pub struct CountAnswer {
-    pub answer: u64,
-    pub count: usize,
-}
-
-pub struct TargetAnswer {
-    pub answer: u64,
-    pub target: OptionPlace,
-}
-
-pub struct AccessAnswer {
-    pub answer: u64,
-    pub access: BodyAccess,
-}
-
-pub struct ProcessorAnswer {
-    pub answer: u64,
-    pub processor: ProcessorSetting,
-}
-
 // Refusal 3: more than 256 ranges, more than 64 targets.
-fn is_beyond(ranges: usize, targets: usize) -> bool
+pub fn is_beyond(ranges: usize, targets: usize) -> bool
     ensures { λ r. ⌜ r ≡ (ltb mostRanges ranges || ltb mostTargets targets) ⌝ }
 {
     if 256 < ranges {
@@ -88,67 +53,13 @@ fn is_beyond(ranges: usize, targets: usize) -> bool
     64 < targets
 }
 
-// How many of 256 places are looked at where `count` are said to be in use.
-fn held(count: usize) -> usize
-    ensures { λ r. ⌜ r ≡ min count 256 ⌝ }
-{
-    if count < 256 {
-        return count;
-    }
-    256
-}
-
-// Both ends of a range are removed.
-fn contains(start: u64, end: u64, id: u64) -> bool
-    ensures { λ r. ⌜ r ≡ inRange id (record { start = start; end = end }) ⌝ }
-{
-    if start <= id {
-        return id <= end;
-    }
-    false
-}
-
-// Whether an id, or none, is removed by the first `count` ranges. No more than 256 are looked at.
-pub fn is_removed<'a>(
-    starts: &'a [u64; 256],
-    ends: &'a [u64; 256],
-    count: usize,
-    id: OptionU64,
-) -> bool
-    ensures { λ r. ⌜ r ≡ isRemoved (rangeList (min count 256) (now (starts .entry)) (now (ends .entry))) id ⌝ }
-{
-    // a rule without an id is never removed
-    let OptionU64::Some(number) = id else {
-        return false;
-    };
-    let n = held(count);
-    let mut i = 0;
-    while i < n {
-        if contains(starts[i], ends[i], number) {
-            return true;
-        }
-        i += 1;
-    }
-    false
-}
-
 // The mode that a directive set, else the rule set's.
-fn mode_or(ruleset_mode: RuleEngineMode, setting: ModeSetting) -> RuleEngineMode
+pub fn mode_or(ruleset_mode: RuleEngineMode, setting: ModeSetting) -> RuleEngineMode
     ensures { λ r. ⌜ r ≡ modeOr «ruleset_mode» setting ⌝ }
 {
     match setting {
         ModeSetting::Set(mode) => mode,
         ModeSetting::Unset => ruleset_mode,
-    }
-}
-
-// Body access is on until set.
-fn access_of(setting: AccessSetting) -> BodyAccess
-    ensures { λ r. ⌜ r ≡ accessOf setting ⌝ }
-{
-    match setting {
-        AccessSetting::Set(access) => access,
-        AccessSetting::Unset => BodyAccess::On,
     }
 }
 
@@ -316,114 +227,6 @@ impl Controls {
         Changed {
             answer: 0,
             controls: self,
-        }
-    }
-
-    // The mode set last, else the rule set's.
-    pub fn engine_mode(self, ruleset_mode: RuleEngineMode) -> ModeAnswer
-        ensures { λ r. ⌜ Answered (r .answer) (r .mode) (askMode «ruleset_mode» (controlsOf self)) ⌝ }
-    {
-        if is_beyond(self.ranges, self.targets) {
-            return ModeAnswer {
-                answer: 3,
-                mode: ruleset_mode,
-            };
-        }
-        let held = self.settings;
-        let setting = held.mode;
-        let mode = mode_or(ruleset_mode, setting);
-        ModeAnswer { answer: 0, mode }
-    }
-
-    // Whether a rule of this id, or of none, is removed.
-    pub fn is_rule_removed(self, id: OptionU64) -> RemovedAnswer
-        ensures { λ r. ⌜ Answered (r .answer) (r .removed) (askRemoved (controlsOf self) id) ⌝ }
-    {
-        let ranges = self.ranges;
-        let targets = self.targets;
-        if is_beyond(ranges, targets) {
-            return RemovedAnswer {
-                answer: 3,
-                removed: false,
-            };
-        }
-        let removed = is_removed(&self.starts, &self.ends, ranges, id);
-        RemovedAnswer { answer: 0, removed }
-    }
-
-    pub fn target_count(self) -> CountAnswer
-        ensures { λ r. ⌜ Answered (r .answer) (r .count) (askTargetCount (controlsOf self)) ⌝ }
-    {
-        let targets = self.targets;
-        if is_beyond(self.ranges, targets) {
-            return CountAnswer {
-                answer: 3,
-                count: 0,
-            };
-        }
-        CountAnswer {
-            answer: 0,
-            count: targets,
-        }
-    }
-
-    // The target at a place of the list, counted from 0, or none behind its end.
-    pub fn target_at(self, at: usize) -> TargetAnswer
-        ensures { λ r. ⌜ Answered (r .answer) (r .target) (askTarget (controlsOf self) at) ⌝ }
-    {
-        let targets = self.targets;
-        if is_beyond(self.ranges, targets) {
-            return TargetAnswer {
-                answer: 3,
-                target: OptionPlace::None,
-            };
-        }
-        if targets <= at {
-            return TargetAnswer {
-                answer: 0,
-                target: OptionPlace::None,
-            };
-        }
-        let place = Place {
-            phase: self.phases[at],
-            position: self.positions[at],
-        };
-        TargetAnswer {
-            answer: 0,
-            target: OptionPlace::Some(place),
-        }
-    }
-
-    pub fn request_body_access(self) -> AccessAnswer
-        ensures { λ r. ⌜ Answered (r .answer) (r .access) (askAccess (controlsOf self)) ⌝ }
-    {
-        if is_beyond(self.ranges, self.targets) {
-            return AccessAnswer {
-                answer: 3,
-                access: BodyAccess::On,
-            };
-        }
-        let held = self.settings;
-        let setting = held.access;
-        let access = access_of(setting);
-        AccessAnswer { answer: 0, access }
-    }
-
-    // The processor that a directive set, if any.
-    pub fn request_body_processor(self) -> ProcessorAnswer
-        ensures { λ r. ⌜ Answered (r .answer) (r .processor) (askProcessor (controlsOf self)) ⌝ }
-    {
-        if is_beyond(self.ranges, self.targets) {
-            return ProcessorAnswer {
-                answer: 3,
-                processor: ProcessorSetting::Unset,
-            };
-        }
-        let held = self.settings;
-        let setting = held.processor;
-        ProcessorAnswer {
-            answer: 0,
-            processor: setting,
         }
     }
 }

@@ -2,10 +2,11 @@ use borrow.Author.Needs.{needs}
 use mathlib.Core.Path.{_≡_}
 use native.Mathlib.Omega.{arith}
 use Prim.Native.Nat.{min}
 use Rattle.control.specs.Held.{controlsOf}
-use Rattle.control.proofs.HeldLaws.{refuses, gives, within}
-use Rattle.control.proofs.Controls.is_rule_removed.Statement.{statement}
-use Rattle.control.proofs.Controls.is_rule_removed.Tie as tie
+use Rattle.control.proofs.HeldLaws.{within}
+use Rattle.questions.proofs.Asking.{refuses, gives}
+use Rattle.questions.proofs.is_rule_removed.Statement.{statement}
+use Rattle.questions.proofs.is_rule_removed.Tie as tie
 
 is-beyond-requires : tie.Need-is-beyond-requires
 is-beyond-requires c κs = search needs

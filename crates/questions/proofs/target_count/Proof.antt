@@ -1,18 +1,19 @@
 use borrow.Author.Needs.{needs}
 use mathlib.Core.Path.{sym}
-use Rattle.control.proofs.HeldLaws.{refuses, gives, targets-length}
-use Rattle.control.proofs.Controls.target_count.Statement.{statement}
-use Rattle.control.proofs.Controls.target_count.Tie as tie
+use Rattle.control.proofs.HeldLaws.{targets-length}
+use Rattle.questions.proofs.Asking.{refuses, gives}
+use Rattle.questions.proofs.target_count.Statement.{statement}
+use Rattle.questions.proofs.target_count.Tie as tie
 
 is-beyond-requires : tie.Need-is-beyond-requires
 is-beyond-requires c κs = search needs
 
 returns : tie.Need-returns
-returns c = refuses (c .before .before .args .self) _ (c .before .is-beyond .ensures) _ _ (c .if1 .taken)
+returns c = refuses (c .before .before .args .c) _ (c .before .is-beyond .ensures) _ _ (c .if1 .taken)
 
 returns-2 : tie.Need-returns-2
 returns-2 c =
-    let s = c .before .before .args .self in
+    let s = c .before .before .args .c in
     gives s _ (c .before .is-beyond .ensures) _ _ _ (c .if1 .left) (sym (targets-length s))
 
 pub target-count-spec : {M : Type 1} → statement M

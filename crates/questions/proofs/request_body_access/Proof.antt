@@ -1,14 +1,14 @@
 use borrow.Author.Needs.{needs}
 use Rattle.control.specs.Held.{controlsOf}
-use Rattle.control.proofs.HeldLaws.{refuses, gives}
-use Rattle.control.proofs.Controls.request_body_access.Statement.{statement}
-use Rattle.control.proofs.Controls.request_body_access.Tie as tie
+use Rattle.questions.proofs.Asking.{refuses, gives}
+use Rattle.questions.proofs.request_body_access.Statement.{statement}
+use Rattle.questions.proofs.request_body_access.Tie as tie
 
 is-beyond-requires : tie.Need-is-beyond-requires
 is-beyond-requires c κs = search needs
 
 returns : tie.Need-returns
-returns c = refuses (c .before .before .args .self) _ (c .before .is-beyond .ensures) _ _ (c .if1 .taken)
+returns c = refuses (c .before .before .args .c) _ (c .before .is-beyond .ensures) _ _ (c .if1 .taken)
 
 access-of-requires : tie.Need-access-of-requires
 access-of-requires c κs = search needs
@@ -17,7 +17,7 @@ returns-2 : tie.Need-returns-2
 unfolding controlsOf
 returns-2 c =
     let e = c .before .before in
-    gives (e .before .before .args .self) _ (e .before .is-beyond .ensures) _ _ _ (e .if1 .left) (c .access-of .ensures)
+    gives (e .before .before .args .c) _ (e .before .is-beyond .ensures) _ _ _ (e .if1 .left) (c .access-of .ensures)
 
 pub request-body-access-spec : {M : Type 1} → statement M
 request-body-access-spec =

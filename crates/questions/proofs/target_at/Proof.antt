@@ -2,11 +2,12 @@ use borrow.Author.Needs.{needs}
 use Prim.Native.Nat.{_<_}
 use mathlib.Core.Path.{sym}
 use native.Mathlib.Omega.{arith}
 use Rattle.control.specs.Held.{controlsOf}
-use Rattle.control.proofs.HeldLaws.{refuses, gives, within}
-use Rattle.control.proofs.PairLaws.{no-target, target-at}
-use Rattle.control.proofs.Controls.target_at.Statement.{statement}
-use Rattle.control.proofs.Controls.target_at.Tie as tie
+use Rattle.control.proofs.HeldLaws.{within}
+use Rattle.questions.proofs.Asking.{refuses, gives}
+use Rattle.removal.proofs.PairLaws.{no-target, target-at}
+use Rattle.questions.proofs.target_at.Statement.{statement}
+use Rattle.questions.proofs.target_at.Tie as tie
 
 -- a target in use stands within the arrays
 in-array : (c : tie.Else2) → c .before .before .before .args .at < 64

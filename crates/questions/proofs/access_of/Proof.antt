@@ -1,6 +1,6 @@
 use borrow.Author.Needs.{needs}
-use Rattle.control.proofs.access_of.Statement.{statement}
-use Rattle.control.proofs.access_of.Tie as tie
+use Rattle.questions.proofs.access_of.Statement.{statement}
+use Rattle.questions.proofs.access_of.Tie as tie
 
 enum-known-setting : tie.Need-enum-known-setting
 enum-known-setting c = search needs
