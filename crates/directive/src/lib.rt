@@ -81,23 +81,6 @@ fn rule_remove_by_id(value: &[u8]) -> CtlDirective
     CtlDirective::RuleRemoveById(n)
 }
 
-// Whether a value is a target: something on both sides of its first ';'.
-fn is_target(value: &[u8]) -> bool
-    ensures { λ r. ⌜ r ≡ isSupported (targetValue (now (value .entry))) ⌝ }
-{
-    let cut = text::find(value, b';');
-    if value.len() <= cut {
-        return false;
-    }
-    let id = text::trimmed(&value[..cut]);
-    if id.len() == 0 {
-        return false;
-    }
-    let from = cut + 1;
-    let target = text::trimmed(&value[from..]);
-    0 < target.len()
-}
-
 fn request_body_access(value: &[u8]) -> CtlDirective
     ensures { λ r. ⌜ ((lent : List ℕ) → r ≡ withoutLists lent (accessValue (fold (now (value .entry))))) ⌝ }
 {
@@ -114,6 +97,23 @@ fn request_body_processor(value: &[u8]) -> CtlDirective
         return CtlDirective::Unsupported;
     };
     CtlDirective::RequestBodyProcessor(processor)
+}
+
+// Whether a value is a target: something on both sides of its first ';'.
+fn is_target(value: &[u8]) -> bool
+    ensures { λ r. ⌜ r ≡ isSupported (targetValue (now (value .entry))) ⌝ }
+{
+    let cut = text::find(value, b';');
+    if value.len() <= cut {
+        return false;
+    }
+    let id = text::trimmed(&value[..cut]);
+    if id.len() == 0 {
+        return false;
+    }
+    let from = cut + 1;
+    let target = text::trimmed(&value[from..]);
+    0 < target.len()
 }
 
 // The target directive of a value as lent and trimmed. Where it is cut is said of the value as lent.

@@ -1,4 +1,4 @@
--- The directive reader, the questions to the controls and single additions at their open points, as one table.
+-- The directive reader, the questions to the controls, additions to them and lent records at their open points, as tables.
 use Prim.Native.Nat.{ℕ}
 use mathlib.Core.Path.{_≡_, refl}
 use mathlib.Core.List.{List, [], _∷_}
@@ -13,10 +13,12 @@ use Rattle.reading.specs.declared.ProcessorSetting.{ProcessorSetting}
 use Rattle.reading.specs.declared.RuleIdRange.{RuleIdRange}
 use Rattle.reading.specs.declared.Place.{Place}
 use Rattle.reading.specs.declared.OptionU64.{OptionU64}
+use Rattle.reading.specs.declared.Action.{Action}
 use Rattle.reading.specs.Numbers.{modeNumber, accessNumber, directiveNumber, directiveValue}
 use Rattle.reading.specs.Text.{ascii, same, trimStart, before, trimEnd, trim, fold, allDigits, valueFrom, digits, withoutPlus, numberOf, indexOf, onFirst, splitOn, oneId, idsTo, idsFrom, idPart, anyBad, rangesIn}
 use Rattle.reading.specs.Directive.{directiveOf, readerAnswer, ReaderOutcome, readerOutcome}
-use Rattle.reading.specs.Controls.{Controls, isRemoved, beyondLimits, askMode, askRemoved, askTargetCount, askTarget, askAccess, addRangeAnswer, addTargetAnswer, withRange, withTarget}
+use Rattle.reading.specs.Controls.{Controls, isRemoved, beyondLimits, askMode, askRemoved, askTargetCount, askTarget, askAccess, addRangeAnswer, addRangesAnswer, addTargetAnswer, withRange, withAllRanges, withTarget}
+use Rattle.reading.specs.Records.{actionAt, actionList}
 use Rattle.reading.specs.Cases.Build.{eqBool}
 
 -- THE READER: the answer, the form of the directive with its number, and both lists
@@ -145,6 +147,35 @@ additions =
     ∷ eqb (length (withTarget (holding 0 63) (place 1) .targets)) 64
     ∷ []
 
+-- D136: the ranges of one directive, all or none
+abbrev joint-additions : List Bool
+joint-additions =
+    eqb (addRangesAnswer (holding 0 65) []) 3
+    ∷ eqb (addRangesAnswer (holding 255 0) (range 1 1 ∷ range 2 2 ∷ [])) 8
+    ∷ eqb (addRangesAnswer (holding 255 64) (range 1 1 ∷ [])) 0
+    ∷ eqb (length (withAllRanges (holding 255 0) (range 1 1 ∷ range 2 2 ∷ []) .ranges)) 255
+    ∷ eqb (length (withAllRanges (holding 254 0) (range 1 1 ∷ range 2 2 ∷ []) .ranges)) 256
+    ∷ []
+
+-- D137: six numbers to an action, and what is left over is none
+abbrev lent-numbers : List ℕ
+lent-numbers = 19 ∷ 0 ∷ 1 ∷ 2 ∷ 3 ∷ 4 ∷ 8 ∷ 5 ∷ 6 ∷ 7 ∷ 9 ∷ 10 ∷ 1 ∷ []
+
+abbrev second : Action
+second = actionAt lent-numbers 1
+
+abbrev records : List Bool
+records =
+    eqb (length (actionList lent-numbers)) 2
+    ∷ eqb (length (actionList (1 ∷ 0 ∷ 0 ∷ 0 ∷ 0 ∷ []))) 0
+    ∷ eqb (second .kind) 8
+    ∷ eqb (second .number) 5
+    ∷ eqb (second .text .start) 6
+    ∷ eqb (second .text .len) 7
+    ∷ eqb (second .value .start) 9
+    ∷ eqb (second .value .len) 10
+    ∷ []
+
 pub question-table : allTrue questions ≡ true
 unfolding allTrue beyondLimits isRemoved
 question-table = refl
@@ -152,3 +183,11 @@ question-table = refl
 pub addition-table : allTrue additions ≡ true
 unfolding allTrue beyondLimits addRangeAnswer addTargetAnswer
 addition-table = refl
+
+pub joint-addition-table : allTrue joint-additions ≡ true
+unfolding allTrue beyondLimits addRangesAnswer
+joint-addition-table = refl
+
+pub record-table : allTrue records ≡ true
+unfolding allTrue actionList
+record-table = refl
