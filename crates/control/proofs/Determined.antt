@@ -14,7 +14,7 @@ use Rattle.reading.specs.Controls.{pairList}
 use Rattle.reading.specs.Controls as reading
 use Rattle.control.specs.declared.Controls.{Controls}
 use Rattle.control.specs.Held.{controlsOf, Became}
-use Rattle.removal.proofs.PairLaws.{rangeOf, placeOf, length-pairs}
+use Rattle.held.proofs.PairLaws.{rangeOf, placeOf, length-pairs}
 
 -- one of the two arrays, read off the list below the count
 module _ {A : Type 0} (make : ℕ → ℕ → A) (read : A → ℕ) (xs ys column : List ℕ)

@@ -19,7 +19,7 @@ use Rattle.ranges.specs.Ranges.{Written}
 use Rattle.control.specs.declared.Controls.{Controls}
 use Rattle.control.specs.declared.Changed.{Changed}
 use Rattle.control.specs.Held.{controlsOf, Added}
-use Rattle.removal.proofs.PairLaws.{rangeOf, placeOf, length-pairs}
+use Rattle.held.proofs.PairLaws.{rangeOf, placeOf, length-pairs}
 use Rattle.control.proofs.RunLaws.{drop-sets, pairs-sets, handed, written-behind}
 
 ranges-length : (c : Controls) → length (controlsOf c .ranges) ≡ c .ranges

@@ -14,7 +14,7 @@ use Rattle.reading.specs.Directive.{unsupported, ruleRemoveById, removalValue, 
 use Rattle.reading.specs.Controls.{pairList}
 use Rattle.ranges.specs.declared.RangeCount.{RangeCount}
 use Rattle.ranges.specs.Ranges.{countIn, allFitting, Written}
-use Rattle.removal.proofs.PairLaws.{pairs-behind}
+use Rattle.held.proofs.PairLaws.{pairs-behind}
 
 -- the places behind those written are as found
 pub drop-sets : (vs l : List ℕ) (n m : ℕ) → n + length vs ≤ m → drop m (sets l n vs) ≡ drop m l

@@ -10,13 +10,10 @@ use reading::ProcessorSetting;
 use reading::RuleEngineMode;
 use reading::RuleIdRange;
 ghost use mathlib.Core.Path.{_≡_};
-ghost use mathlib.Core.Bool.{_||_};
-ghost use lib.Dec.{ltb};
 ghost use Rattle.reading.specs.Controls.{withMode, withAccess, withProcessor, withRange, withTarget, addRangeAnswer, addTargetAnswer};
 ghost use Rattle.reading.specs.Controls.{withAllRanges, addRangesAnswer};
 ghost use Rattle.reading.specs.Text.{trim};
 ghost use Rattle.reading.specs.Directive.{removalValue, rangesOf};
-ghost use Rattle.reading.specs.Controls.{modeOr, mostRanges, mostTargets};
 ghost use Rattle.control.specs.Held.{controlsOf, New, Became, Added};
 
 // The mode, the body access and the body processor, each set or not.
@@ -41,26 +38,6 @@ pub struct Controls {
 pub struct Changed {
     pub answer: u64,
     pub controls: Controls,
-}
-
-// Refusal 3: more than 256 ranges, more than 64 targets.
-pub fn is_beyond(ranges: usize, targets: usize) -> bool
-    ensures { λ r. ⌜ r ≡ (ltb mostRanges ranges || ltb mostTargets targets) ⌝ }
-{
-    if 256 < ranges {
-        return true;
-    }
-    64 < targets
-}
-
-// The mode that a directive set, else the rule set's.
-pub fn mode_or(ruleset_mode: RuleEngineMode, setting: ModeSetting) -> RuleEngineMode
-    ensures { λ r. ⌜ r ≡ modeOr «ruleset_mode» setting ⌝ }
-{
-    match setting {
-        ModeSetting::Set(mode) => mode,
-        ModeSetting::Unset => ruleset_mode,
-    }
 }
 
 impl Controls {
@@ -135,7 +112,7 @@ impl Controls {
     {
         let at = self.ranges;
         let targets = self.targets;
-        if is_beyond(at, targets) {
+        if held::is_beyond(at, targets) {
             return Changed {
                 answer: 3,
                 controls: self,
@@ -171,7 +148,7 @@ impl Controls {
     {
         let used = self.ranges;
         let targets = self.targets;
-        if is_beyond(used, targets) {
+        if held::is_beyond(used, targets) {
             return Changed {
                 answer: 3,
                 controls: self,
@@ -208,7 +185,7 @@ impl Controls {
     {
         let ranges = self.ranges;
         let next = self.targets;
-        if is_beyond(ranges, next) {
+        if held::is_beyond(ranges, next) {
             return Changed {
                 answer: 3,
                 controls: self,

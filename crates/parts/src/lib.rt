@@ -1,4 +1,4 @@
-// Parts of a lent text: thin functions that lend a part on to those of the crate text.
+// Parts of a lent text: thin functions that lend a part on to those of the crates text and number.
 use reading::Number;
 use reading::Part;
 ghost use mathlib.Core.Path.{_≡_};
@@ -40,5 +40,5 @@ pub fn part_folds_to(text: &[u8], p: Part, spelling: &[u8]) -> bool
 pub fn part_number(text: &[u8], p: Part) -> Number
     ensures { λ r. ⌜ r ≡ numberOf (partOf (now (text .entry)) p) ⌝ }
 {
-    text::read_number(part_of(text, p))
+    number::read_number(part_of(text, p))
 }

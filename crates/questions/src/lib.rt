@@ -57,7 +57,7 @@ fn access_of(setting: AccessSetting) -> BodyAccess
 pub fn engine_mode(c: Controls, ruleset_mode: RuleEngineMode) -> ModeAnswer
     ensures { λ r. ⌜ Answered (r .answer) (r .mode) (askMode «ruleset_mode» (controlsOf c)) ⌝ }
 {
-    if control::is_beyond(c.ranges, c.targets) {
+    if held::is_beyond(c.ranges, c.targets) {
         return ModeAnswer {
             answer: 3,
             mode: ruleset_mode,
@@ -65,7 +65,7 @@ pub fn engine_mode(c: Controls, ruleset_mode: RuleEngineMode) -> ModeAnswer
     }
     let held = c.settings;
     let setting = held.mode;
-    let mode = control::mode_or(ruleset_mode, setting);
+    let mode = held::mode_or(ruleset_mode, setting);
     ModeAnswer { answer: 0, mode }
 }
 
@@ -75,13 +75,13 @@ pub fn is_rule_removed(c: Controls, id: OptionU64) -> RemovedAnswer
 {
     let ranges = c.ranges;
     let targets = c.targets;
-    if control::is_beyond(ranges, targets) {
+    if held::is_beyond(ranges, targets) {
         return RemovedAnswer {
             answer: 3,
             removed: false,
         };
     }
-    let removed = removal::is_removed(&c.starts, &c.ends, ranges, id);
+    let removed = held::is_removed(&c.starts, &c.ends, ranges, id);
     RemovedAnswer { answer: 0, removed }
 }
 
@@ -89,7 +89,7 @@ pub fn target_count(c: Controls) -> CountAnswer
     ensures { λ r. ⌜ Answered (r .answer) (r .count) (askTargetCount (controlsOf c)) ⌝ }
 {
     let targets = c.targets;
-    if control::is_beyond(c.ranges, targets) {
+    if held::is_beyond(c.ranges, targets) {
         return CountAnswer {
             answer: 3,
             count: 0,
@@ -106,7 +106,7 @@ pub fn target_at(c: Controls, at: usize) -> TargetAnswer
     ensures { λ r. ⌜ Answered (r .answer) (r .target) (askTarget (controlsOf c) at) ⌝ }
 {
     let targets = c.targets;
-    if control::is_beyond(c.ranges, targets) {
+    if held::is_beyond(c.ranges, targets) {
         return TargetAnswer {
             answer: 3,
             target: OptionPlace::None,
@@ -131,7 +131,7 @@ pub fn target_at(c: Controls, at: usize) -> TargetAnswer
 pub fn request_body_access(c: Controls) -> AccessAnswer
     ensures { λ r. ⌜ Answered (r .answer) (r .access) (askAccess (controlsOf c)) ⌝ }
 {
-    if control::is_beyond(c.ranges, c.targets) {
+    if held::is_beyond(c.ranges, c.targets) {
         return AccessAnswer {
             answer: 3,
             access: BodyAccess::On,
@@ -147,7 +147,7 @@ pub fn request_body_access(c: Controls) -> AccessAnswer
 pub fn request_body_processor(c: Controls) -> ProcessorAnswer
     ensures { λ r. ⌜ Answered (r .answer) (r .processor) (askProcessor (controlsOf c)) ⌝ }
 {
-    if control::is_beyond(c.ranges, c.targets) {
+    if held::is_beyond(c.ranges, c.targets) {
         return ProcessorAnswer {
             answer: 3,
             processor: ProcessorSetting::Unset,

@@ -17,12 +17,12 @@ fn ids_around(t: &[u8], k: usize) -> IdPart
     ensures { λ r. ⌜ r ≡ idsFrom (numberOf (trim (take k (now (t .entry))))) (numberOf (trim (drop (suc k) (now (t .entry))))) ⌝ }
 {
     let before = text::trimmed(&t[..k]);
-    let Number::Value(start) = text::read_number(before) else {
+    let Number::Value(start) = number::read_number(before) else {
         return IdPart::Bad;
     };
     let from = k + 1;
     let behind = text::trimmed(&t[from..]);
-    let Number::Value(end) = text::read_number(behind) else {
+    let Number::Value(end) = number::read_number(behind) else {
         return IdPart::Bad;
     };
     if end < start {
@@ -43,7 +43,7 @@ fn id_part(p: &[u8]) -> IdPart
     if k < t.len() {
         return ids_around(t, k);
     }
-    let Number::Value(id) = text::read_number(t) else {
+    let Number::Value(id) = number::read_number(t) else {
         return IdPart::Bad;
     };
     IdPart::Range(RuleIdRange { start: id, end: id })

@@ -2,5 +2,4 @@
 pub mod Slices
 pub mod Trimming
 pub mod Spelling
-pub mod Digits
 pub mod Search

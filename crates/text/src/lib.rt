@@ -1,9 +1,8 @@
-// Bytes of a text: folding, trimming, comparison with a spelling, numbers. Each function takes a whole slice; for
-// a part of a lent text see the crate parts.
-use reading::Number;
+// Bytes of a text: folding, trimming, comparison with a spelling, searching. Each function takes a whole slice;
+// for a part of a lent text see the crate parts.
 ghost use mathlib.Core.Path.{_≡_};
 ghost use Rattle.reading.specs.Lists.{any};
-ghost use Rattle.reading.specs.Text.{same, isBlank, trimStart, trimEnd, trim, foldByte, fold, digits, numberOf, indexOf};
+ghost use Rattle.reading.specs.Text.{same, isBlank, trimStart, trimEnd, trim, foldByte, fold, indexOf};
 ghost use Rattle.reading.specs.Directive.{isHigh};
 
 // The ASCII lower case of a byte.
@@ -85,47 +84,6 @@ pub fn folds_to(s: &[u8], spelling: &[u8]) -> bool
         }
     }
     true
-}
-
-// One or more digits, at most 18446744073709551615; there is no limit to their count.
-fn read_digits(s: &[u8]) -> Number
-    ensures { λ r. ⌜ r ≡ digits (now (s .entry)) ⌝ }
-{
-    if s.len() == 0 {
-        return Number::Bad;
-    }
-    let mut v: u64 = 0;
-    let mut i = 0;
-    while i < s.len() {
-        let b = s[i];
-        if b < 48 {
-            return Number::Bad;
-        }
-        if 57 < b {
-            return Number::Bad;
-        }
-        let d = (b - 48) as u64;
-        // v * 10 + d would pass the largest number
-        if (18446744073709551615 - d) / 10 < v {
-            return Number::Bad;
-        }
-        v = v * 10 + d;
-        i += 1;
-    }
-    Number::Value(v)
-}
-
-// A number: an optional '+', then digits.
-pub fn read_number(s: &[u8]) -> Number
-    ensures { λ r. ⌜ r ≡ numberOf (now (s .entry)) ⌝ }
-{
-    if s.len() == 0 {
-        return Number::Bad;
-    }
-    if s[0] == b'+' {
-        return read_digits(&s[1..]);
-    }
-    read_digits(s)
 }
 
 // Where a byte stands first, or the length.

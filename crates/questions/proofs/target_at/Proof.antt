@@ -5,7 +5,7 @@ use native.Mathlib.Omega.{arith}
 use Rattle.control.specs.Held.{controlsOf}
 use Rattle.control.proofs.HeldLaws.{within}
 use Rattle.questions.proofs.Asking.{refuses, gives}
-use Rattle.removal.proofs.PairLaws.{no-target, target-at}
+use Rattle.held.proofs.PairLaws.{no-target, target-at}
 use Rattle.questions.proofs.target_at.Statement.{statement}
 use Rattle.questions.proofs.target_at.Tie as tie
 

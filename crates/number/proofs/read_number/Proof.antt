@@ -1,10 +1,10 @@
 use borrow.Author.Needs.{needs}
 use mathlib.Core.Path.{sym, ap, _∙_}
 use Rattle.reading.specs.Text.{digits}
 use Rattle.text.proofs.Slices.{rest-eq}
-use Rattle.text.proofs.Digits.{number-none, number-plus, number-plain}
-use Rattle.text.proofs.read_number.Statement.{statement}
-use Rattle.text.proofs.read_number.Tie as tie
+use Rattle.number.proofs.Digits.{number-none, number-plus, number-plain}
+use Rattle.number.proofs.read_number.Statement.{statement}
+use Rattle.number.proofs.read_number.Tie as tie
 
 returns : tie.Need-returns
 returns c = sym (number-none (c .before .before .args .s .now) (c .if1 .taken))

@@ -1,6 +1,6 @@
 use borrow.Author.Tests.{lt-ltb, le-ltb}
-use Rattle.control.proofs.is_beyond.Statement.{statement}
-use Rattle.control.proofs.is_beyond.Tie as tie
+use Rattle.held.proofs.is_beyond.Statement.{statement}
+use Rattle.held.proofs.is_beyond.Tie as tie
 
 returns : tie.Need-returns
 returns c = rw (lt-ltb _ _ (c .if1 .taken))

@@ -6,9 +6,9 @@ use native.Mathlib.Omega.{arith}
 use mathlib.Core.Bool.{false}
 use Rattle.reading.specs.Lists.{any}
 use Rattle.reading.specs.Controls.{inRange, rangeList}
-use Rattle.removal.proofs.RemovalLaws.{removed-none, removed-not, removed-by, removed-more}
-use Rattle.removal.proofs.is_removed.Statement.{statement}
-use Rattle.removal.proofs.is_removed.Tie as tie
+use Rattle.held.proofs.RemovalLaws.{removed-none, removed-not, removed-by, removed-more}
+use Rattle.held.proofs.is_removed.Statement.{statement}
+use Rattle.held.proofs.is_removed.Tie as tie
 
 abbrev Inv-loop : tie.InvT-loop
 Inv-loop starts ends count number n i₀ i = (i ≤ n) × (any (inRange number) (rangeList i starts ends) ≡ false)

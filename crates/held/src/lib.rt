@@ -1,8 +1,12 @@
-// Whether a rule is removed, asked of the ranges as two lent arrays, so that nothing is copied.
+// What is asked of the parts of the controls, lent or by value, so that a visit copies none of them.
+use reading::ModeSetting;
 use reading::OptionU64;
+use reading::RuleEngineMode;
 ghost use mathlib.Core.Path.{_≡_};
+ghost use mathlib.Core.Bool.{_||_};
 ghost use Prim.Native.Nat.{min};
-ghost use Rattle.reading.specs.Controls.{isRemoved, inRange, rangeList};
+ghost use lib.Dec.{ltb};
+ghost use Rattle.reading.specs.Controls.{isRemoved, inRange, rangeList, modeOr, mostRanges, mostTargets};
 
 // How many of 256 places are looked at where `count` are said to be in use.
 fn held(count: usize) -> usize
@@ -46,4 +50,24 @@ pub fn is_removed<'a>(
         i += 1;
     }
     false
+}
+
+// Refusal 3: more than 256 ranges, more than 64 targets.
+pub fn is_beyond(ranges: usize, targets: usize) -> bool
+    ensures { λ r. ⌜ r ≡ (ltb mostRanges ranges || ltb mostTargets targets) ⌝ }
+{
+    if 256 < ranges {
+        return true;
+    }
+    64 < targets
+}
+
+// The mode that a directive set, else the rule set's.
+pub fn mode_or(ruleset_mode: RuleEngineMode, setting: ModeSetting) -> RuleEngineMode
+    ensures { λ r. ⌜ r ≡ modeOr «ruleset_mode» setting ⌝ }
+{
+    match setting {
+        ModeSetting::Set(mode) => mode,
+        ModeSetting::Unset => ruleset_mode,
+    }
 }

@@ -1,6 +1,6 @@
 use borrow.Author.Needs.{needs}
-use Rattle.control.proofs.mode_or.Statement.{statement}
-use Rattle.control.proofs.mode_or.Tie as tie
+use Rattle.held.proofs.mode_or.Statement.{statement}
+use Rattle.held.proofs.mode_or.Tie as tie
 
 enum-known-setting : tie.Need-enum-known-setting
 enum-known-setting c = search needs

@@ -4,10 +4,10 @@ use native.Mathlib.Omega.{arith}
 use native.Mathlib.Numerals.{add-one}
 use lib.ListN.{length, drop}
 use Rattle.reading.specs.Text.{digits}
-use Rattle.text.proofs.Digits.{digitsFrom, digits-none, digits-start, digits-more, digits-low, digits-high, digits-large}
-use Rattle.text.proofs.Digits.{digits-end}
-use Rattle.text.proofs.read_digits.Statement.{statement}
-use Rattle.text.proofs.read_digits.Tie as tie
+use Rattle.number.proofs.Digits.{digitsFrom, digits-none, digits-start, digits-more, digits-low, digits-high, digits-large}
+use Rattle.number.proofs.Digits.{digits-end}
+use Rattle.number.proofs.read_digits.Statement.{statement}
+use Rattle.number.proofs.read_digits.Tie as tie
 
 abbrev Inv-loop : tie.InvT-loop
 Inv-loop s v₀ i₀ v i = (i ≤ length s) × (v ≤ 18446744073709551615) × (digits s ≡ digitsFrom v (drop i s))

@@ -9,7 +9,7 @@ use Rattle.reading.specs.declared.RuleIdRange.{RuleIdRange}
 use Rattle.reading.specs.declared.OptionU64.{OptionU64}
 use Rattle.reading.specs.Lists.{any}
 use Rattle.reading.specs.Controls.{isRemoved, inRange, rangeList}
-use Rattle.removal.proofs.PairLaws.{rangeOf, any-passed, any-failed}
+use Rattle.held.proofs.PairLaws.{rangeOf, any-passed, any-failed}
 
 pub removed-none : (rs : List RuleIdRange) (id : OptionU64) → id ≡ OptionU64.None → false ≡ isRemoved rs id
 unfolding isRemoved

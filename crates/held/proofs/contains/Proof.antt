@@ -1,6 +1,6 @@
 use borrow.Author.Tests.{le-leb, lt-leb}
-use Rattle.removal.proofs.contains.Statement.{statement}
-use Rattle.removal.proofs.contains.Tie as tie
+use Rattle.held.proofs.contains.Statement.{statement}
+use Rattle.held.proofs.contains.Tie as tie
 
 returns : tie.Need-returns
 returns c = simp (le-leb _ _ (c .if1 .taken))
