@@ -1,8 +1,14 @@
 -- Lists of records that are lent as one flat list of numbers, so many to a record.
 use Prim.Native.Nat.{ℕ, zero, suc, _+_, _*_, _/_}
-use mathlib.Core.List.{List, [], _∷_}
+use mathlib.Core.List.{List, [], _∷_, _++_}
 use lib.ListN.{length, getD}
+use lib.Dec.{eqb}
+use Rattle.reading.specs.declared.Rule.{Rule}
 use Rattle.reading.specs.declared.Action.{Action}
+use Rattle.reading.specs.declared.Marker.{Marker}
+use Rattle.reading.specs.declared.DataEntry.{DataEntry}
+use Rattle.reading.specs.declared.JournalEntry.{JournalEntry}
+use Rattle.reading.specs.Lists.{keep}
 
 module _ {A : Type 0} where
   -- the values of a function at 0, 1, 2 and on, so many
@@ -26,3 +32,59 @@ actionAt words i = record {
 -- the actions that a lent list of numbers stands for
 unfoldable pub actionList : List ℕ → List Action
 actionList words = recordList 6 actionAt words
+
+-- a rule, five numbers: whether it has an id, the id, the link flag, first action and action count
+abbrev pub ruleFrom : List ℕ → ℕ → Rule
+ruleFrom words i = record {
+  present = getD words (5 * i) 0;
+  id = getD words (5 * i + 1) 0;
+  link = getD words (5 * i + 2) 0;
+  first = getD words (5 * i + 3) 0;
+  count = getD words (5 * i + 4) 0;
+}
+
+unfoldable pub ruleList : List ℕ → List Rule
+ruleList words = recordList 5 ruleFrom words
+
+-- a marker, three numbers: start and length of its name, and its position
+abbrev pub markerFrom : List ℕ → ℕ → Marker
+markerFrom words i = record {
+  name = record { start = getD words (3 * i) 0; len = getD words (3 * i + 1) 0 };
+  position = getD words (3 * i + 2) 0;
+}
+
+unfoldable pub markerList : List ℕ → List Marker
+markerList words = recordList 3 markerFrom words
+
+-- a data entry, four numbers: whether it has an id, the id, the phase and the rule index
+abbrev pub dataFrom : List ℕ → ℕ → DataEntry
+dataFrom words i = record {
+  present = getD words (4 * i) 0;
+  id = getD words (4 * i + 1) 0;
+  phase = getD words (4 * i + 2) 0;
+  index = getD words (4 * i + 3) 0;
+}
+
+unfoldable pub dataList : List ℕ → List DataEntry
+dataList words = recordList 4 dataFrom words
+
+-- a journal entry, two numbers: the rule index and the verdict
+abbrev pub journalFrom : List ℕ → ℕ → JournalEntry
+journalFrom words i = record { index = getD words (2 * i) 0; verdict = getD words (2 * i + 1) 0 }
+
+unfoldable pub journalList : List ℕ → List JournalEntry
+journalList words = recordList 2 journalFrom words
+
+-- the numbers of entries that are written
+abbrev pub dataWords : List DataEntry → List ℕ
+dataWords [] = []
+dataWords (e ∷ es) = e .present ∷ e .id ∷ e .phase ∷ e .index ∷ dataWords es
+
+abbrev pub journalWords : List JournalEntry → List ℕ
+journalWords [] = []
+journalWords (e ∷ es) = e .index ∷ e .verdict ∷ journalWords es
+
+-- the matched rules among journal entries, by their indexes. 01: "1 matched"
+abbrev pub matchedIn : List JournalEntry → List ℕ
+matchedIn [] = []
+matchedIn (e ∷ es) = keep (eqb (e .verdict) 1) (e .index ∷ []) ++ matchedIn es

@@ -37,8 +37,9 @@ refused4 q = not (eqb (length (q .outcomes)) (ruleCount q))
 abbrev pub outside : ℕ → ℕ → ℕ → Bool
 outside entries start len = ltb entries (start + len)
 
-abbrev pub outsideText : Call → Part → Bool
-outsideText q p = outside (length (q .text)) (p .start) (p .len)
+-- the same of a part of a text of so many bytes
+abbrev pub outsideText : ℕ → Part → Bool
+outsideText bytes p = outside bytes (p .start) (p .len)
 
 -- the greatest number of a kind: "8 skip (number at most 4294967295)", "16 to 18: at most 255", "20 status (at most 65535)"
 abbrev pub numberLimit : ℕ → ℕ
@@ -47,15 +48,17 @@ numberLimit kind =
     (cond (leb 16 kind && leb kind 18) 255
     (cond (eqb kind 20) 65535 largest))
 
-abbrev pub badRule : Call → Rule → Bool
-badRule q r = ltb 1 (r .present) || ltb 1 (r .link) || outside (length (q .actions)) (r .first) (r .count)
+-- a rule among so many actions
+abbrev pub badRule : ℕ → Rule → Bool
+badRule actions r = ltb 1 (r .present) || ltb 1 (r .link) || outside actions (r .first) (r .count)
 
 -- "A kind without a text or number ignores it, but its parts must lie inside the text."
-abbrev pub badAction : Call → Action → Bool
-badAction q a = ltb 20 (a .kind) || ltb (numberLimit (a .kind)) (a .number) || outsideText q (a .text) || outsideText q (a .value)
+abbrev pub badAction : ℕ → Action → Bool
+badAction bytes a = ltb 20 (a .kind) || ltb (numberLimit (a .kind)) (a .number) || outsideText bytes (a .text) || outsideText bytes (a .value)
 
-abbrev pub badMarker : Call → Marker → Bool
-badMarker q m = outsideText q (m .name) || ltb (ruleCount q) (m .position)
+-- a marker of a text of so many bytes and so many rules
+abbrev pub badMarker : ℕ → ℕ → Marker → Bool
+badMarker bytes rules m = outsideText bytes (m .name) || ltb rules (m .position)
 
 -- "Outcome per rule: 0 missed, 1 matched without a variable, 2 matched with one, 3 rule error."
 abbrev pub badOutcome : ℕ → Bool
@@ -64,7 +67,11 @@ badOutcome outcome = ltb 3 outcome
 -- 5. "A record holds an unknown kind, flag or outcome, a number above its limit, a part outside its list or text, or a
 -- marker position above the rule count."
 unfoldable pub refused5 : Call → Bool
-refused5 q = any (badRule q) (q .rules) || any (badAction q) (q .actions) || any (badMarker q) (q .markers) || any badOutcome (q .outcomes)
+refused5 q =
+    any (badRule (length (q .actions))) (q .rules)
+    || any (badAction (length (q .text))) (q .actions)
+    || any (badMarker (length (q .text)) (ruleCount q)) (q .markers)
+    || any badOutcome (q .outcomes)
 
 -- 6. "The text has a byte of 80 (hexadecimal) or more."
 unfoldable pub refused6 : Call → Bool

@@ -1,0 +1,96 @@
+// A rule set's records at an index, and the position of a marker (engine/ruleset.rs). Rules and markers are lent as flat
+// lists of numbers, five to a rule and three to a marker.
+use reading::OptionU64;
+use reading::Part;
+use reading::Rule;
+ghost use mathlib.Core.Path.{_≡_};
+ghost use Prim.Native.Nat.{_+_};
+ghost use lib.ListN.{getD, drop};
+ghost use Rattle.reading.specs.Text.{partOf};
+ghost use Rattle.reading.specs.Records.{ruleList, markerList};
+ghost use Rattle.reading.specs.Call.{noRule, recordId};
+ghost use Rattle.reading.specs.Markers.{markerPosition};
+ghost use Rattle.reading.specs.Walk.{chainRest};
+
+// The rule at an index, all zeros where there is none.
+pub fn rule_at(rules: &[u64], index: usize) -> Rule
+    ensures { λ r. ⌜ r ≡ getD (ruleList (now (rules .entry))) index noRule ⌝ }
+{
+    if rules.len() / 5 <= index {
+        return Rule {
+            present: 0,
+            id: 0,
+            link: 0,
+            first: 0,
+            count: 0,
+        };
+    }
+    let at = 5 * index;
+    Rule {
+        present: rules[at],
+        id: rules[at + 1],
+        link: rules[at + 2],
+        first: rules[at + 3],
+        count: rules[at + 4],
+    }
+}
+
+// A rule's id, or none.
+pub fn rule_id(rule: Rule) -> OptionU64
+    ensures { λ r. ⌜ r ≡ recordId rule ⌝ }
+{
+    if rule.present == 1 {
+        return OptionU64::Some(rule.id);
+    }
+    OptionU64::None
+}
+
+// The index behind the chain that the rule at an index belongs to: behind the first rule from there on
+// that is not a link, or behind the last rule.
+pub fn after_chain(rules: &[u64], index: usize) -> usize
+    ensures { λ r. ⌜ r ≡ index + chainRest (drop index (ruleList (now (rules .entry)))) ⌝ }
+{
+    let n = rules.len() / 5;
+    let mut i = index;
+    while i < n {
+        let link = rules[5 * i + 2];
+        i += 1;
+        if link != 1 {
+            return i;
+        }
+    }
+    i
+}
+
+// The position of the latest marker of a name, byte for byte, or none.
+pub fn marker(markers: &[u64], text: &[u8], name: Part) -> OptionU64
+    ensures { λ r. ⌜ r ≡ markerPosition (now (text .entry)) (markerList (now (markers .entry))) (partOf (now (text .entry)) name) ⌝ }
+{
+    let wanted = parts::part_of(text, name);
+    let n = wanted.len();
+    let mut k = markers.len() / 3;
+    let found = 'search: loop {
+        if k == 0 {
+            break 'search OptionU64::None;
+        }
+        k -= 1;
+        let p = Part {
+            start: markers[3 * k],
+            len: markers[3 * k + 1],
+        };
+        let other = parts::part_of(text, p);
+        if other.len() == n {
+            let mut j = 0;
+            'name: loop {
+                if j == n {
+                    break 'search OptionU64::Some(markers[3 * k + 2]);
+                }
+                if other[j] != wanted[j] {
+                    break 'name;
+                }
+                j += 1;
+            }
+        }
+    };
+    found
+}
