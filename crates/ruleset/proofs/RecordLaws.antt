@@ -1,0 +1,84 @@
+-- Lists of so many values of a function, and the records that a list of numbers stands for. Assumes nothing.
+use Prim.Native.Nat.{ℕ, zero, suc, _/_, _≤_, _<_}
+use mathlib.Core.Path.{_≡_, refl, ap}
+use mathlib.Core.List.{List, [], _∷_}
+use native.Mathlib.Omega.{arith}
+use lib.ListN.{length, getD, drop, drop-of-length-le, List·getD-eq-default}
+use Rattle.reading.specs.declared.Rule.{Rule}
+use Rattle.reading.specs.declared.Marker.{Marker}
+use Rattle.reading.specs.Records.{values, recordList, ruleFrom, ruleList, markerFrom, markerList}
+
+module _ {A : Type 0} where
+  pub length-values : (f : ℕ → A) (n : ℕ) → length (values f n) ≡ n
+  length-values f zero = refl
+  length-values f (suc n) = ap suc (length-values (λ i. f (suc i)) n)
+
+  pub getD-values : (f : ℕ → A) (n i : ℕ) (d : A) → i < n → getD (values f n) i d ≡ f i
+  getD-values f zero i d h = absurd (omega arith)
+  getD-values f (suc n) zero d h = refl
+  getD-values f (suc n) (suc i) d h = getD-values (λ k. f (suc k)) n i d (omega arith)
+
+  pub drop-values : (f : ℕ → A) (n i : ℕ) → i < n → drop i (values f n) ≡ f i ∷ drop (suc i) (values f n)
+  drop-values f zero i h = absurd (omega arith)
+  drop-values f (suc n) zero h = refl
+  drop-values f (suc n) (suc i) h = drop-values (λ k. f (suc k)) n i (omega arith)
+
+-- records of any width: inside the list, and behind its end
+module _ {A : Type 0} (width : ℕ) (recordAt : List ℕ → ℕ → A) (words : List ℕ) where
+  pub length-records : length (recordList width recordAt words) ≡ length words / width
+  length-records = length-values (recordAt words) (length words / width)
+
+  pub record-is : (i : ℕ) (d : A) → i < length words / width → getD (recordList width recordAt words) i d ≡ recordAt words i
+  record-is i d h = getD-values (recordAt words) (length words / width) i d h
+
+  pub record-behind : (i : ℕ) (d : A) → length words / width ≤ i → getD (recordList width recordAt words) i d ≡ d
+  record-behind i d h = List·getD-eq-default (recordList width recordAt words) d {n = i} (omega (arith, length-records))
+
+  pub drop-records : (i : ℕ) → i < length words / width
+      → drop i (recordList width recordAt words) ≡ recordAt words i ∷ drop (suc i) (recordList width recordAt words)
+  drop-records i h = drop-values (recordAt words) (length words / width) i h
+
+  pub records-end : (i : ℕ) → length words / width ≤ i → drop i (recordList width recordAt words) ≡ []
+  records-end i h = drop-of-length-le (recordList width recordAt words) {i = i} (omega (arith, length-records))
+
+module _ (words : List ℕ) where
+  pub length-rules : length (ruleList words) ≡ length words / 5
+  unfolding ruleList
+  length-rules = length-records 5 ruleFrom words
+
+  pub rule-is : (i : ℕ) (d : Rule) → i < length words / 5 → getD (ruleList words) i d ≡ ruleFrom words i
+  unfolding ruleList
+  rule-is i d h = record-is 5 ruleFrom words i d h
+
+  pub rule-behind : (i : ℕ) (d : Rule) → length words / 5 ≤ i → getD (ruleList words) i d ≡ d
+  unfolding ruleList
+  rule-behind i d h = record-behind 5 ruleFrom words i d h
+
+  pub drop-rules : (i : ℕ) → i < length words / 5 → drop i (ruleList words) ≡ ruleFrom words i ∷ drop (suc i) (ruleList words)
+  unfolding ruleList
+  drop-rules i h = drop-records 5 ruleFrom words i h
+
+  pub rules-end : (i : ℕ) → length words / 5 ≤ i → drop i (ruleList words) ≡ []
+  unfolding ruleList
+  rules-end i h = records-end 5 ruleFrom words i h
+
+  pub length-markers : length (markerList words) ≡ length words / 3
+  unfolding markerList
+  length-markers = length-records 3 markerFrom words
+
+  pub marker-is : (i : ℕ) (d : Marker) → i < length words / 3 → getD (markerList words) i d ≡ markerFrom words i
+  unfolding markerList
+  marker-is i d h = record-is 3 markerFrom words i d h
+
+  pub marker-behind : (i : ℕ) (d : Marker) → length words / 3 ≤ i → getD (markerList words) i d ≡ d
+  unfolding markerList
+  marker-behind i d h = record-behind 3 markerFrom words i d h
+
+  pub drop-markers : (i : ℕ) → i < length words / 3
+      → drop i (markerList words) ≡ markerFrom words i ∷ drop (suc i) (markerList words)
+  unfolding markerList
+  drop-markers i h = drop-records 3 markerFrom words i h
+
+  pub markers-end : (i : ℕ) → length words / 3 ≤ i → drop i (markerList words) ≡ []
+  unfolding markerList
+  markers-end i h = records-end 3 markerFrom words i h

@@ -1,0 +1,41 @@
+-- What closing a unit answers and writes.
+use Prim.Native.Nat.{ℕ, _+_, _*_, _/_, min}
+use mathlib.Core.Path.{_≡_}
+use mathlib.Core.Bool.{Bool, cond}
+use mathlib.Core.List.{List, [], _∷_}
+use lib.Dec.{ltb, eqb}
+use lib.ListN.{length, take}
+use lib.Seq.{sets}
+use Rattle.reading.specs.declared.OptionU64.{OptionU64}
+use Rattle.reading.specs.declared.DataEntry.{DataEntry}
+use Rattle.reading.specs.declared.DisruptiveOutcome.{DisruptiveOutcome}
+use Rattle.reading.specs.Lists.{keep, over}
+use Rattle.reading.specs.Records.{dataWords}
+use Rattle.reading.specs.Numbers.{presentNumber, numberOrZero}
+use Rattle.reading.specs.Call.{Call, ruleCount}
+use Rattle.reading.specs.Units.{unitIds, unitData, unitFlow, unitDisruptive}
+use Rattle.reading.specs.Walk.{afterFlow}
+use Rattle.unit.specs.declared.Closed.{Closed}
+
+-- a data entry of an id or none
+abbrev pub entryWith : OptionU64 → ℕ → ℕ → DataEntry
+entryWith id phase m = record { present = presentNumber id; id = numberOrZero id; phase = phase; index = m }
+
+-- new entries, where a list of numbers has a place for an entry at w
+abbrev pub fitting : List ℕ → ℕ → List DataEntry → List DataEntry
+fitting words w new = keep (ltb w (length words / 4)) new
+
+-- at most one entry written at w, and the next place
+pub record Put (new : List DataEntry) (w : ℕ) (before : List ℕ) (next : ℕ) (after : List ℕ) : Type 0 where
+  pub next-is : next ≡ w + length (fitting before w new)
+  pub words : after ≡ sets before (4 * w) (dataWords (fitting before w new))
+
+-- Of a unit, if it closes; `behind` is the index behind its closing rule. Ids and data entries are written from the start of
+-- the lent parts, as many as fit; an accepted call has room for all.
+pub record Wrote (q : Call) (closes : Bool) (unit : List ℕ) (behind : ℕ) (ids entries : List ℕ) (r : Closed) (ids′ entries′ : List ℕ) : Type 0 where
+  pub id-count : r .ids ≡ length (take (length ids) (keep closes (unitIds q unit)))
+  pub ids-are : ids′ ≡ over ids (take (length ids) (keep closes (unitIds q unit)))
+  pub entry-count : r .entries ≡ length (take (length entries / 4) (keep closes (unitData q unit)))
+  pub entries-are : entries′ ≡ over entries (dataWords (take (length entries / 4) (keep closes (unitData q unit))))
+  pub next-is : r .next ≡ cond closes (min (afterFlow q behind (unitFlow q unit)) (ruleCount q)) behind
+  pub disruptive-is : r .disruptive ≡ cond closes (unitDisruptive q unit) DisruptiveOutcome.Nothing

@@ -1,0 +1,227 @@
+// What a closed unit gives: its starter's id and its members' data entries, written to the free parts of the lent lists, and
+// what its starter's actions say of the flow and of the request.
+use reading::DataEntry;
+use reading::DisruptiveOutcome;
+use reading::FlowOutcome;
+use reading::OptionU64;
+ghost use mathlib.Core.Path.{_≡_};
+ghost use mathlib.Core.Bool.{_&&_};
+ghost use mathlib.Core.List.{[], _∷_};
+ghost use Prim.Native.Nat.{min, _/_};
+ghost use lib.Dec.{eqb};
+ghost use lib.ListN.{length, take, getD};
+ghost use Rattle.reading.specs.Lists.{keep, over, gather};
+ghost use Rattle.reading.specs.Numbers.{listOf};
+ghost use Rattle.reading.specs.Records.{dataWords, journalList, matchedIn};
+ghost use Rattle.reading.specs.Call.{idAt};
+ghost use Rattle.reading.specs.Units.{ownOr, memberData};
+ghost use Rattle.reading.specs.Walk.{jumpFrom, afterFlow};
+ghost use Rattle.members.specs.Given.{Rest, callWith};
+ghost use Rattle.unit.specs.Closed.{entryWith, Put, Wrote};
+
+// How many ids and data entries were written, the index that the walk goes on with, and the starter's last disruptive action.
+pub struct Closed {
+    pub ids: usize,
+    pub entries: usize,
+    pub next: usize,
+    pub disruptive: DisruptiveOutcome,
+}
+
+// Writes an id, if there is one and a place for it.
+fn put_id(id: OptionU64, ids: &mut [u64]) -> usize
+    ensures { λ r. ⌜ r ≡ length (take (length (now (ids .entry))) (listOf id)) ⌝ }
+    ensures { λ r. ⌜ now (ids .exit) ≡ over (now (ids .entry)) (take (length (now (ids .entry))) (listOf id)) ⌝ }
+{
+    let OptionU64::Some(number) = id else {
+        return 0;
+    };
+    if ids.len() == 0 {
+        return 0;
+    }
+    ids[0] = number;
+    1
+}
+
+fn outcome_at(outcomes: &[u8], index: usize) -> u8
+    ensures { λ r. ⌜ r ≡ getD (now (outcomes .entry)) index 0 ⌝ }
+{
+    if outcomes.len() <= index {
+        return 0;
+    }
+    outcomes[index]
+}
+
+// A member's own id, else the starter's.
+fn own_or(own: OptionU64, starter: OptionU64) -> OptionU64
+    ensures { λ r. ⌜ r ≡ ownOr own starter ⌝ }
+{
+    match own {
+        OptionU64::None => starter,
+        OptionU64::Some(id) => OptionU64::Some(id),
+    }
+}
+
+fn data_entry(id: OptionU64, phase: u64, index: u64) -> DataEntry
+    ensures { λ r. ⌜ r ≡ entryWith id phase index ⌝ }
+{
+    match id {
+        OptionU64::None => DataEntry {
+            present: 0,
+            id: 0,
+            phase,
+            index,
+        },
+        OptionU64::Some(number) => DataEntry {
+            present: 1,
+            id: number,
+            phase,
+            index,
+        },
+    }
+}
+
+// Writes the entry of a member at the place w, if it has outcome 2 and there is such a place, and answers the next place.
+fn put_entry(verdict: u64, outcome: u8, e: DataEntry, w: usize, entries: &mut [u64]) -> usize
+    ensures { λ r. ⌜ Put (keep (eqb verdict 1 && eqb outcome 2) (e ∷ [])) w (now (entries .entry)) r (now (entries .exit)) ⌝ }
+{
+    if verdict != 1 {
+        return w;
+    }
+    if outcome != 2 {
+        return w;
+    }
+    if entries.len() / 4 <= w {
+        return w;
+    }
+    let at = 4 * w;
+    entries[at] = e.present;
+    entries[at + 1] = e.id;
+    entries[at + 2] = e.phase;
+    entries[at + 3] = e.index;
+    w + 1
+}
+
+// Writes the data entries of a unit's members, as many as fit, and answers how many.
+fn put_entries(
+    phase: u64,
+    starter: OptionU64,
+    members: &[u64],
+    rules: &[u64],
+    outcomes: &[u8],
+    entries: &mut [u64],
+) -> usize
+    ensures { λ r. ⌜ Listed phase starter (now (members .entry)) (now (rules .entry)) (now (outcomes .entry)) (now (entries .entry)) r (now (entries .exit)) ⌝ }
+{
+    let n = members.len() / 2;
+    let mut w = 0;
+    let mut k = 0;
+    while k < n {
+        let index = members[2 * k];
+        let verdict = members[2 * k + 1];
+        let m = index as usize;
+        let own = ruleset::rule_id(ruleset::rule_at(rules, m));
+        let e = data_entry(own_or(own, starter), phase, index);
+        w = put_entry(verdict, outcome_at(outcomes, m), e, w, entries);
+        k += 1;
+    }
+    w
+}
+
+// A skip of n indexes from `behind` on, which goes no further than behind the last rule.
+fn skipped(behind: usize, n: u64, rules: usize) -> usize
+    ensures { λ r. ⌜ r ≡ min (behind + n) rules ⌝ }
+{
+    if rules <= behind {
+        return rules;
+    }
+    if (rules - behind) as u64 <= n {
+        return rules;
+    }
+    behind + n as usize
+}
+
+// A marker is jumped to if its position is greater than `behind`; else the rest is passed.
+fn jumped(behind: usize, found: OptionU64, rules: usize) -> usize
+    ensures { λ r. ⌜ r ≡ min (jumpBy behind rules found) rules ⌝ }
+{
+    let OptionU64::Some(position) = found else {
+        return rules;
+    };
+    if position <= behind as u64 {
+        return rules;
+    }
+    if rules as u64 <= position {
+        return rules;
+    }
+    position as usize
+}
+
+// The index that the walk goes on with, given the one behind the closing rule.
+fn after_flow(
+    flow: FlowOutcome,
+    behind: usize,
+    rules: &[u64],
+    actions: &[u64],
+    markers: &[u64],
+    text: &[u8],
+) -> usize
+    ensures { λ r. ⌜ r ≡ min (flowsTo (actionList (now (actions .entry))) (markerList (now (markers .entry))) (now (text .entry)) behind (length (ruleList (now (rules .entry)))) flow) (length (ruleList (now (rules .entry)))) ⌝ }
+{
+    let n = rules.len() / 5;
+    match flow {
+        FlowOutcome::Continue => {
+            return skipped(behind, 0, n);
+        }
+        FlowOutcome::Chain => {
+            return skipped(behind, 0, n);
+        }
+        FlowOutcome::Skip(count) => {
+            return skipped(behind, count, n);
+        }
+        FlowOutcome::SkipAfter(position) => {
+            let name = actions::action_at(actions, position as usize).text;
+            return jumped(behind, ruleset::marker(markers, text, name), n);
+        }
+    }
+}
+
+// Closes a unit, or nothing.
+pub fn close_unit(
+    closes: bool,
+    behind: usize,
+    phase: u64,
+    members: &[u64],
+    rules: &[u64],
+    actions: &[u64],
+    markers: &[u64],
+    text: &[u8],
+    outcomes: &[u8],
+    ids: &mut [u64],
+    entries: &mut [u64],
+) -> Closed
+    ensures { λ r. ⌜ ((rest : Rest) → Wrote (callWith phase (now (rules .entry)) (now (actions .entry)) (now (markers .entry)) (now (text .entry)) (now (outcomes .entry)) rest)
+        closes (matchedIn (journalList (now (members .entry)))) behind (now (ids .entry)) (now (entries .entry)) r (now (ids .exit)) (now (entries .exit))) ⌝ }
+{
+    if closes {
+        let starter = ruleset::rule_at(rules, members::starter_of(members) as usize);
+        let id = ruleset::rule_id(starter);
+        let listed = put_id(id, ids);
+        let written = put_entries(phase, id, members, rules, outcomes, entries);
+        let mut none = [0u64; 1];
+        let acts = actions::execute_actions(actions, starter, phase, &mut none[1..]);
+        let next = after_flow(acts.flow, behind, rules, actions, markers, text);
+        let disruptive = acts.disruptive;
+        return Closed {
+            ids: listed,
+            entries: written,
+            next,
+            disruptive,
+        };
+    }
+    Closed {
+        ids: 0,
+        entries: 0,
+        next: behind,
+        disruptive: DisruptiveOutcome::Nothing,
+    }
+}
