@@ -3,3 +3,4 @@ pub mod Slices
 pub mod Trimming
 pub mod Spelling
 pub mod Search
+pub mod Filled

@@ -6,18 +6,19 @@ use reading::FlowOutcome;
 use reading::OptionU64;
 ghost use mathlib.Core.Path.{_≡_};
 ghost use mathlib.Core.Bool.{_&&_};
-ghost use mathlib.Core.List.{[], _∷_};
-ghost use Prim.Native.Nat.{min, _/_};
+ghost use mathlib.Core.List.{List, [], _∷_};
+ghost use Prim.Native.Nat.{ℕ, _+_, min};
 ghost use lib.Dec.{eqb};
 ghost use lib.ListN.{length, take, getD};
 ghost use Rattle.reading.specs.Lists.{keep, over, gather};
 ghost use Rattle.reading.specs.Numbers.{listOf};
-ghost use Rattle.reading.specs.Records.{dataWords, journalList, matchedIn};
-ghost use Rattle.reading.specs.Call.{idAt};
-ghost use Rattle.reading.specs.Units.{ownOr, memberData};
+ghost use Rattle.reading.specs.Reading.{rust};
+ghost use Rattle.reading.specs.Records.{ruleList, journalList, matchedIn};
+ghost use Rattle.reading.specs.Call.{Call, ruleCount};
+ghost use Rattle.reading.specs.Units.{ownOr};
 ghost use Rattle.reading.specs.Walk.{jumpFrom, afterFlow};
 ghost use Rattle.members.specs.Given.{Rest, callWith};
-ghost use Rattle.unit.specs.Closed.{entryWith, Put, Wrote};
+ghost use Rattle.unit.specs.Closed.{entryWith, memberEntry, Put, Listed, Wrote};
 
 // How many ids and data entries were written, the index that the walk goes on with, and the starter's last disruptive action.
 pub struct Closed {
@@ -110,7 +111,8 @@ fn put_entries(
     outcomes: &[u8],
     entries: &mut [u64],
 ) -> usize
-    ensures { λ r. ⌜ Listed phase starter (now (members .entry)) (now (rules .entry)) (now (outcomes .entry)) (now (entries .entry)) r (now (entries .exit)) ⌝ }
+    ensures { λ r. ⌜ Listed (gather (memberEntry phase starter (ruleList (now (rules .entry))) (now (outcomes .entry))) (matchedIn (journalList (now (members .entry)))))
+        (now (entries .entry)) r (now (entries .exit)) ⌝ }
 {
     let n = members.len() / 2;
     let mut w = 0;
@@ -142,7 +144,7 @@ fn skipped(behind: usize, n: u64, rules: usize) -> usize
 
 // A marker is jumped to if its position is greater than `behind`; else the rest is passed.
 fn jumped(behind: usize, found: OptionU64, rules: usize) -> usize
-    ensures { λ r. ⌜ r ≡ min (jumpBy behind rules found) rules ⌝ }
+    ensures { λ r. ⌜ ((q : Call) → q .reading ≡ rust → ruleCount q ≡ rules → r ≡ min (jumpFrom q behind found) rules) ⌝ }
 {
     let OptionU64::Some(position) = found else {
         return rules;
@@ -165,7 +167,9 @@ fn after_flow(
     markers: &[u64],
     text: &[u8],
 ) -> usize
-    ensures { λ r. ⌜ r ≡ min (flowsTo (actionList (now (actions .entry))) (markerList (now (markers .entry))) (now (text .entry)) behind (length (ruleList (now (rules .entry)))) flow) (length (ruleList (now (rules .entry)))) ⌝ }
+    ensures { λ r. ⌜ ((phase : ℕ) (outcomes : List ℕ) (rest : Rest)
+        → let q = callWith phase (now (rules .entry)) (now (actions .entry)) (now (markers .entry)) (now (text .entry)) outcomes rest in
+        r ≡ min (afterFlow q behind flow) (ruleCount q)) ⌝ }
 {
     let n = rules.len() / 5;
     match flow {
@@ -209,8 +213,9 @@ pub fn close_unit(
         let written = put_entries(phase, id, members, rules, outcomes, entries);
         let mut none = [0u64; 1];
         let acts = actions::execute_actions(actions, starter, phase, &mut none[1..]);
-        let next = after_flow(acts.flow, behind, rules, actions, markers, text);
+        let flow = acts.flow;
         let disruptive = acts.disruptive;
+        let next = after_flow(flow, behind, rules, actions, markers, text);
         return Closed {
             ids: listed,
             entries: written,

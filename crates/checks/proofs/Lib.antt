@@ -1,0 +1,3 @@
+-- Laws on plain lists and numbers, for the proofs of the functions.
+pub mod AnyLaws
+pub mod TestLaws
