@@ -1,2 +1,3 @@
 pub mod FlowLaws
 pub mod EntryLaws
+pub mod CloseLaws

@@ -1,68 +1,61 @@
+-- `unit::after_flow` meets its contract.
+use mathlib.Core.Path.{sym}
+use denote.Ref.{now}
+use Rattle.ruleset.proofs.RecordLaws.{length-rules}
+use Rattle.unit.proofs.FlowLaws.{flow-on, flow-chain, flow-skip, flow-after}
+use borrow.Author.Needs.{needs}
 use borrow.Author.Needs.{needs}
 use Rattle.unit.proofs.after_flow.Statement.{statement}
 use Rattle.unit.proofs.after_flow.Tie as tie
-use Rattle.unit.proofs.after_flow.Reads as reads
-use Rattle.unit.proofs.after_flow.Lts as lts
-use Rattle.actions.proofs.action_at.Reads as action-at-reads
-use Rattle.ruleset.proofs.marker.Reads as marker-reads
-use Rattle.unit.proofs.jumped.Reads as jumped-reads
-use Rattle.unit.proofs.skipped.Reads as skipped-reads
 
--- src/lib.rt:177:13
 enum-told : tie.Need-enum-told
 enum-told c = search needs
 
--- src/lib.rt:177:13
 skipped-requires : tie.Need-skipped-requires
 skipped-requires c κs = search needs
 
--- src/lib.rt:177:13
 returns : tie.Need-returns
-returns c = ?
+returns c = λ phase outcomes rest. let a = c .before .before .before .before .before .before .before .args in
+    flow-on phase (now (a .rules)) (now (a .actions)) (now (a .markers)) (now (a .text)) outcomes rest (a .behind) _ (sym (length-rules (now (a .rules)))) (a .flow) (c .skipped .result) (c .before .enum-told .given .1) (c .skipped .ensures)
 
--- src/lib.rt:180:13
 enum-told-2 : tie.Need-enum-told-2
 enum-told-2 c = search needs
 
--- src/lib.rt:180:13
 skipped-requires-2 : tie.Need-skipped-requires-2
 skipped-requires-2 c κs = search needs
 
--- src/lib.rt:180:13
 returns-2 : tie.Need-returns-2
-returns-2 c = ?
+returns-2 c = λ phase outcomes rest. let a = c .before .before .before .before .before .before .before .args in
+    flow-chain phase (now (a .rules)) (now (a .actions)) (now (a .markers)) (now (a .text)) outcomes rest (a .behind) _ (sym (length-rules (now (a .rules)))) (a .flow) (c .skipped2 .result) (c .before .enum-told2 .given .1) (c .skipped2 .ensures)
 
--- src/lib.rt:182:27
 enum-known-flow : tie.Need-enum-known-flow
 enum-known-flow c = search needs
 
--- src/lib.rt:183:13
 skipped-requires-3 : tie.Need-skipped-requires-3
 skipped-requires-3 c κs = search needs
 
--- src/lib.rt:183:13
 returns-3 : tie.Need-returns-3
-returns-3 c = ?
+returns-3 c = λ phase outcomes rest. let a = c .before .before .before .before .before .before .before .before .args in
+    flow-skip phase (now (a .rules)) (now (a .actions)) (now (a .markers)) (now (a .text)) outcomes rest (a .behind) _ (sym (length-rules (now (a .rules)))) (a .flow) (c .skipped3 .result) (c .before .before .flow .given .0 .0) (c .before .before .flow .given .1) (c .skipped3 .ensures)
 
--- src/lib.rt:185:32
 enum-known-flow-2 : tie.Need-enum-known-flow-2
 enum-known-flow-2 c = search needs
 
--- src/lib.rt:186:24
 action-at-requires : tie.Need-action-at-requires
 action-at-requires c κs = search needs
 
--- src/lib.rt:187:35
 marker-requires : tie.Need-marker-requires
 marker-requires c κs = search needs
 
--- src/lib.rt:187:13
 jumped-requires : tie.Need-jumped-requires
 jumped-requires c κs = search needs
 
--- src/lib.rt:187:13
 returns-4 : tie.Need-returns-4
-returns-4 c = ?
+returns-4 c = λ phase outcomes rest. let a = c .before .before .before .before .before .before .before .before .before .before .before .args in
+    let name = c .before .before .before .action-at in
+    let found = c .before .marker in
+    flow-after phase (now (a .rules)) (now (a .actions)) (now (a .markers)) (now (a .text)) outcomes rest (a .behind) _ (sym (length-rules (now (a .rules)))) (a .flow) (c .jumped .result)
+    (c .before .before .before .before .before .flow2 .given .0 .0) (c .before .before .before .before .before .flow2 .given .1) (found .result) (rw (name .ensures) at (found .ensures)) (c .jumped .ensures)
 
 pub after-flow-spec : {M : Type 1} → statement M
 after-flow-spec =

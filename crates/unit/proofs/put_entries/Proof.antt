@@ -1,95 +1,106 @@
+-- `unit::put_entries` meets its contract.
+use Prim.Native.Nat.{ℕ, _+_, _-_, _*_, _/_, _<_, _^_}
+use mathlib.Core.Path.{_≡_, refl, sym, ap, _∙_}
+use mathlib.Core.List.{List, [], _∷_}
+use mathlib.Core.Bool.{_&&_}
+use lib.Dec.{eqb}
+use Rattle.reading.specs.Lists.{keep}
+use native.Mathlib.Omega.{arith}
+use denote.Ref.{now}
+use lib.ListN.{length, getD}
+use Rattle.reading.specs.declared.OptionU64.{OptionU64}
+use Rattle.reading.specs.declared.DataEntry.{DataEntry}
+use Rattle.reading.specs.Records.{ruleList}
+use Rattle.unit.specs.Closed.{memberEntry}
+use Rattle.unit.proofs.EntryLaws.{Sofar, sofar-start, sofar-more, sofar-end, dataFrom, data-more, data-end, at-most-one}
+use borrow.Author.Needs.{needs}
 use Rattle.unit.proofs.put_entries.Statement.{statement}
 use Rattle.unit.proofs.put_entries.Tie as tie
-use Rattle.unit.proofs.put_entries.Reads as reads
-use Rattle.unit.proofs.put_entries.Lts as lts
-use Rattle.ruleset.proofs.rule_at.Reads as rule-at-reads
-use Rattle.ruleset.proofs.rule_id.Reads as rule-id-reads
-use Rattle.unit.proofs.data_entry.Reads as data-entry-reads
-use Rattle.unit.proofs.outcome_at.Reads as outcome-at-reads
-use Rattle.unit.proofs.own_or.Reads as own-or-reads
-use Rattle.unit.proofs.put_entry.Reads as put-entry-reads
+
+-- the entries of the members from the k-th entry of the journal's part on
+abbrev entriesFrom : ℕ → OptionU64 → List ℕ → List ℕ → List ℕ → ℕ → List DataEntry
+entriesFrom phase starter members rules outcomes k = dataFrom members (memberEntry phase starter (ruleList rules) outcomes) k
 
 abbrev Inv-loop : tie.InvT-loop
-Inv-loop phase starter members rules outcomes entries₀ n w₀ k₀ entries w k = ?
+Inv-loop phase starter members rules outcomes entries₀ n w₀ k₀ entries w k = Sofar (entriesFrom phase starter members rules outcomes 0) (entriesFrom phase starter members rules outcomes k) entries₀ entries w
 
 abbrev μ-loop : tie.MeasureT-loop
-μ-loop phase starter members rules outcomes entries₀ n w₀ k₀ entries w k = ?
+μ-loop phase starter members rules outcomes entries₀ n w₀ k₀ entries w k = length members / 2 - k
 
--- src/lib.rt:120:5
+small : (c : tie.In-loop Inv-loop μ-loop) → c .before .loop .k + 1 < 2 ^ 64
+small c = search needs
+
 loop-holds : tie.Need-loop-holds Inv-loop μ-loop
-loop-holds c = ?
+loop-holds c = let a = c .before .before .before .before .args in
+    sofar-start (entriesFrom (a .phase) (a .starter) (now (a .members)) (now (a .rules)) (now (a .outcomes)) 0) (now (a .entries))
 
--- src/lib.rt:121:29
 mul-index : tie.Need-mul-index Inv-loop μ-loop
-mul-index c = ?
+mul-index c = search needs
 
--- src/lib.rt:121:21
 mul-index-2 : tie.Need-mul-index-2 Inv-loop μ-loop
-mul-index-2 c = ?
+mul-index-2 c = search needs
 
--- src/lib.rt:121:21
 shared-slice-read-index : tie.Need-shared-slice-read-index Inv-loop μ-loop
-shared-slice-read-index c = ?
+shared-slice-read-index c = search needs
 
--- src/lib.rt:122:31
 mul-verdict : tie.Need-mul-verdict Inv-loop μ-loop
-mul-verdict c = ?
+mul-verdict c = search needs
 
--- src/lib.rt:122:31
 add-verdict : tie.Need-add-verdict Inv-loop μ-loop
-add-verdict c = ?
+add-verdict c = search needs
 
--- src/lib.rt:122:23
 mul-verdict-2 : tie.Need-mul-verdict-2 Inv-loop μ-loop
-mul-verdict-2 c = ?
+mul-verdict-2 c = search needs
 
--- src/lib.rt:122:23
 shared-slice-read-verdict : tie.Need-shared-slice-read-verdict Inv-loop μ-loop
-shared-slice-read-verdict c = ?
+shared-slice-read-verdict c = search needs
 
--- src/lib.rt:124:36
 rule-at-requires : tie.Need-rule-at-requires Inv-loop μ-loop
-rule-at-requires c κs = ?
+rule-at-requires c κs = search needs
 
--- src/lib.rt:124:13
 rule-id-requires : tie.Need-rule-id-requires Inv-loop μ-loop
-rule-id-requires c κs = ?
+rule-id-requires c κs = search needs
 
--- src/lib.rt:125:28
 own-or-requires : tie.Need-own-or-requires Inv-loop μ-loop
-own-or-requires c κs = ?
+own-or-requires c κs = search needs
 
--- src/lib.rt:125:13
 data-entry-requires : tie.Need-data-entry-requires Inv-loop μ-loop
-data-entry-requires c κs = ?
+data-entry-requires c κs = search needs
 
--- src/lib.rt:126:32
 outcome-at-requires : tie.Need-outcome-at-requires Inv-loop μ-loop
-outcome-at-requires c κs = ?
+outcome-at-requires c κs = search needs
 
--- src/lib.rt:126:9
 put-entry-requires : tie.Need-put-entry-requires Inv-loop μ-loop
-put-entry-requires c κs = ?
+put-entry-requires c κs = search needs
 
--- src/lib.rt:127:9
 add-k : tie.Need-add-k Inv-loop μ-loop
-add-k c = ?
+add-k c = record { fits = small (c .before .before .before .before .before .before .before .before .before .before .before) }
 
--- src/lib.rt:120:5
 loop-less : tie.Need-loop-less Inv-loop μ-loop
-loop-less c = ?
+loop-less c = omega (arith, c .before .before .before .before .before .before .before .before .before .before .before .loop-test .taken)
 
--- src/lib.rt:120:5
 loop-again : tie.Need-loop-again Inv-loop μ-loop
-loop-again c = ?
+loop-again c = let a = c .before .before .before .before .before .before .before .before .before .before .before .before .before .before .before .before .before .args in
+    let k = c .before .before .before .before .before .before .before .before .before .before .before .before .loop .k in
+    let give = memberEntry (a .phase) (a .starter) (ruleList (now (a .rules))) (now (a .outcomes)) in
+    let e = c .before .before .before .before .before .data-entry in
+    let o = c .before .before .before .before .outcome-at in
+    let p = c .before .before .put-entry in
+    let h = c .before .before .before .before .before .before .before .before .before .before .before .loop-test .taken in
+    let is : give (getD (now (a .members)) (2 * k) 0) ≡ keep (eqb (o .result) 2) (e .result ∷ []) =
+    rw (o .ensures, e .ensures, c .before .before .before .before .before .before .own-or .ensures, c .before .before .before .before .before .before .before .rule-id .ensures, c .before .before .before .before .before .before .before .before .rule-at .ensures) in
+    sofar-more (dataFrom (now (a .members)) give 0) (now (a .entries)) (dataFrom (now (a .members)) give k) _ (dataFrom (now (a .members)) give (k + 1))
+    (c .before .before .before .before .before .before .before .before .before .before .before .before .loop .entries) _ (c .before .before .before .before .before .before .before .before .before .before .before .before .loop .w) (p .result)
+    (data-more (now (a .members)) give k (o .result) (e .result) h is) (at-most-one (eqb (getD (now (a .members)) (2 * k + 1) 0) 1 && eqb (o .result) 2) (e .result)) (c .before .before .before .before .before .before .before .before .before .before .before .before .loop .inv) (p .ensures)
 
--- src/lib.rt:106:1
 same-length : tie.Need-same-length Inv-loop μ-loop
-same-length c = ?
+same-length c = c .before .loop .inv .kept
 
--- src/lib.rt:106:1
 returns : tie.Need-returns Inv-loop μ-loop
-returns c = ?
+returns c = let a = c .before .before .before .before .before .before .args in
+    let give = memberEntry (a .phase) (a .starter) (ruleList (now (a .rules))) (now (a .outcomes)) in
+    let e = data-end (now (a .members)) give (c .before .loop .k) (c .loop-test .left) in
+    sofar-end (dataFrom (now (a .members)) give 0) (now (a .entries)) (c .before .loop .entries) (c .before .loop .w) (rw e at (c .before .loop .inv))
 
 pub put-entries-spec : {M : Type 1} → statement M
 put-entries-spec =
