@@ -22,7 +22,7 @@ use Rattle.control.specs.Held.{controlsOf, Added}
 use Rattle.held.proofs.PairLaws.{rangeOf, placeOf, length-pairs}
 use Rattle.control.proofs.RunLaws.{drop-sets, pairs-sets, handed, written-behind}
 
-ranges-length : (c : Controls) → length (controlsOf c .ranges) ≡ c .ranges
+pub ranges-length : (c : Controls) → length (controlsOf c .ranges) ≡ c .ranges
 unfolding controlsOf
 ranges-length c = length-pairs rangeOf (c .starts) (c .ends) (c .ranges)
 

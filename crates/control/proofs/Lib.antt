@@ -1,3 +1,4 @@
 pub mod RunLaws
 pub mod HeldLaws
 pub mod Determined
+pub mod Chained

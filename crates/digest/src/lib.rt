@@ -1,24 +1,197 @@
-// What each action does to the controls, as one small number, and refusals 8 and 9, which count them rule by rule.
+// What each action does to the controls, as one small number, and refusals 8 and 9, which count
+// them rule by rule.
+use reading::BodyAccess;
+use reading::BodyProcessor;
 use reading::CtlDirective;
+use reading::RuleEngineMode;
 ghost use mathlib.Core.Path.{_≡_};
-ghost use mathlib.Core.Bool.{cond};
-ghost use Prim.Native.Nat.{_+_};
+ghost use Prim.Native.Nat.{_+_, _<_, _≤_, min};
 ghost use lib.Dec.{ltb};
-ghost use lib.ListN.{length, take};
+ghost use lib.ListN.{length, take, getD};
 ghost use Rattle.reading.specs.Lists.{over, total};
 ghost use Rattle.reading.specs.Records.{ruleList, actionList};
+ghost use Rattle.reading.specs.Walk.{noAction};
 ghost use Rattle.digest.specs.Codes.{codeOf, codeAt, codesOf, rangesCoded, targetsCoded, ruleWeight};
+ghost use Rattle.digest.specs.Weights.{weightBy, Summed};
 
-// private: fn code_of(directive: CtlDirective) -> u16  ensures r ≡ codeOf directive ; fn code_at(..) ; ...
+fn mode_code(mode: RuleEngineMode) -> u16
+    ensures { λ r. ⌜ r ≡ codeOf (CtlDirective.RuleEngine mode) ⌝ }
+{
+    match mode {
+        RuleEngineMode::On => 1,
+        RuleEngineMode::DetectionOnly => 2,
+        RuleEngineMode::Off => 3,
+    }
+}
+
+fn access_code(access: BodyAccess) -> u16
+    ensures { λ r. ⌜ r ≡ codeOf (CtlDirective.RequestBodyAccess access) ⌝ }
+{
+    match access {
+        BodyAccess::On => 4,
+        BodyAccess::Off => 5,
+    }
+}
+
+fn processor_code(processor: BodyProcessor) -> u16
+    ensures { λ r. ⌜ r ≡ codeOf (CtlDirective.RequestBodyProcessor processor) ⌝ }
+{
+    match processor {
+        BodyProcessor::Urlencoded => 6,
+        BodyProcessor::Multipart => 7,
+        BodyProcessor::Json => 8,
+        BodyProcessor::Xml => 9,
+    }
+}
+
+// The code of so many ranges, counted no further than 257.
+fn ranges_code(n: usize) -> u16
+    ensures { λ r. ⌜ r ≡ codeOf (CtlDirective.RuleRemoveById n) ⌝ }
+{
+    if 257 <= n {
+        return 268;
+    }
+    n as u16 + 11
+}
+
+// The code of a directive: 0 where it changes nothing.
+fn code_of(directive: CtlDirective) -> u16
+    ensures { λ r. ⌜ r ≡ codeOf directive ⌝ }
+{
+    match directive {
+        CtlDirective::RuleEngine(mode) => mode_code(mode),
+        CtlDirective::RuleRemoveById(n) => ranges_code(n),
+        CtlDirective::RuleRemoveTargetById(_) => 10,
+        CtlDirective::RequestBodyAccess(access) => access_code(access),
+        CtlDirective::RequestBodyProcessor(processor) => processor_code(processor),
+        CtlDirective::Unsupported => 0,
+    }
+}
+
+// The code of the action at an index. Only the text of a ctl action (19) is read.
+fn code_at(actions: &[u64], text: &[u8], index: usize) -> u16
+    ensures { λ r. ⌜ r ≡ codeAt (now (text .entry)) (getD (actionList (now (actions .entry))) index noAction) ⌝ }
+{
+    let a = actions::action_at(actions, index);
+    if a.kind != 19 {
+        return 0;
+    }
+    let name = parts::part_of(text, a.text);
+    let value = parts::part_of(text, a.value);
+    code_of(directive::parse(name, value))
+}
+
+// The smaller of two numbers.
+fn smaller(a: usize, b: usize) -> usize
+    ensures { λ r. ⌜ r ≡ min a b ⌝ }
+{
+    if a <= b {
+        return a;
+    }
+    b
+}
 
 // Writes the codes of the actions from the start of a lent list, as many as fit.
 pub fn digest(actions: &[u64], text: &[u8], codes: &mut [u16])
     ensures { λ _. ⌜ now (codes .exit) ≡ over (now (codes .entry)) (take (length (now (codes .entry))) (codesOf (now (text .entry)) (actionList (now (actions .entry))))) ⌝ }
+{
+    let n = smaller(codes.len(), actions.len() / 6);
+    let mut i = 0;
+    while i < n {
+        codes[i] = code_at(actions, text, i);
+        i += 1;
+    }
+}
 
-// Whether so many held ranges and those of all rules, counted rule by rule, exceed 256 (refusal 8). Only the first 4,096 codes count.
+// How many targets, or how many ranges, the action of a code adds.
+fn weight(code: u16, targets: bool) -> u32
+    ensures { λ r. ⌜ (r ≡ weightBy targets code) × (r ≤ 65535) ⌝ }
+{
+    if targets {
+        if code == 10 {
+            return 1;
+        }
+        return 0;
+    }
+    if code < 12 {
+        return 0;
+    }
+    (code - 11) as u32
+}
+
+// Writes, at each index, what so many codes from the first on weigh together.
+fn prefix_sums(codes: &[u16], targets: bool, sums: &mut [u32])
+    requires { ⌜ (length (now codes) < length (now sums)) × (length (now codes) ≤ 4096) ⌝ }
+    ensures { λ _. ⌜ Summed (weightBy targets) (now (codes .entry)) (now (sums .exit)) ⌝ }
+{
+    let mut sum = 0u32;
+    sums[0] = 0;
+    let mut i = 0;
+    while i < codes.len() {
+        sum += weight(codes[i], targets);
+        i += 1;
+        sums[i] = sum;
+    }
+}
+
+// A number of a record, or n where it is greater.
+fn clipped(x: u64, n: usize) -> usize
+    ensures { λ r. ⌜ r ≡ min x n ⌝ }
+{
+    if n as u64 <= x {
+        return n;
+    }
+    x as usize
+}
+
+// A sum as a number of entries.
+fn wide(x: u32) -> usize
+    ensures { λ r. ⌜ r ≡ x ⌝ }
+{
+    x as usize
+}
+
+// Whether so many held and those of all rules, counted rule by rule, exceed the limit. What a rule
+// adds is the difference of two sums: one behind its last action and one before its first.
+fn exceeds(rules: &[u64], codes: &[u16], targets: bool, held: usize, limit: usize) -> bool
+    ensures { λ r. ⌜ r ≡ ltb limit (held + total (ruleWeight (weightBy targets) (take 4096 (now (codes .entry)))) (ruleList (now (rules .entry)))) ⌝ }
+{
+    if limit < held {
+        return true;
+    }
+    let n = smaller(4096, codes.len());
+    let mut sums = [0u32; 4097];
+    prefix_sums(&codes[..n], targets, &mut sums);
+    if sums[n] == 0 {
+        return false; // no action adds anything
+    }
+    let count = rules.len() / 5;
+    let mut left = limit - held;
+    let mut i = 0;
+    while i < count {
+        let from = clipped(rules[5 * i + 3], n);
+        let to = from + clipped(rules[5 * i + 4], n - from);
+        let added = wide(sums[to] - sums[from]);
+        if left < added {
+            return true;
+        }
+        left -= added;
+        i += 1;
+    }
+    false
+}
+
+// Whether so many held ranges and those of all rules, counted rule by rule, exceed 256 (refusal 8).
+// Only the first 4,096 codes count.
 pub fn too_many_ranges(rules: &[u64], codes: &[u16], held: usize) -> bool
     ensures { λ r. ⌜ r ≡ ltb 256 (held + total (ruleWeight rangesCoded (take 4096 (now (codes .entry)))) (ruleList (now (rules .entry)))) ⌝ }
+{
+    exceeds(rules, codes, false, held, 256)
+}
 
 // The same of targets and 64 (refusal 9).
 pub fn too_many_targets(rules: &[u64], codes: &[u16], held: usize) -> bool
     ensures { λ r. ⌜ r ≡ ltb 64 (held + total (ruleWeight targetsCoded (take 4096 (now (codes .entry)))) (ruleList (now (rules .entry)))) ⌝ }
+{
+    exceeds(rules, codes, true, held, 64)
+}

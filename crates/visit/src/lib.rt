@@ -3,7 +3,10 @@
 use reading::Verdict;
 ghost use mathlib.Core.Path.{_≡_};
 ghost use mathlib.Core.Bool.{Bool, false, cond};
-ghost use Prim.Native.Nat.{ℕ};
+ghost use Prim.Native.Nat.{ℕ, min};
+ghost use lib.ListN.{getD};
+ghost use Rattle.reading.specs.Controls.{isRemoved, rangeList};
+ghost use Rattle.reading.specs.Call.{noRule, recordId};
 ghost use Rattle.reading.specs.Numbers.{verdictNumber};
 ghost use Rattle.reading.specs.Records.{ruleList};
 ghost use Rattle.reading.specs.Walk.{verdictBy};
@@ -26,7 +29,7 @@ pub struct Visited {
 }
 
 // A removed rule's outcome is not looked at.
-pub fn verdict(removed: bool, outcome: u8) -> Verdict
+fn verdict(removed: bool, outcome: u8) -> Verdict
     ensures { λ r. ⌜ r ≡ cond removed Verdict.Removed (verdictBy outcome) ⌝ }
 {
     if removed {
@@ -39,6 +42,32 @@ pub fn verdict(removed: bool, outcome: u8) -> Verdict
         return Verdict::Error;
     }
     Verdict::Matched
+}
+
+fn outcome_at(outcomes: &[u8], index: usize) -> u8
+    ensures { λ r. ⌜ r ≡ getD (now (outcomes .entry)) index 0 ⌝ }
+{
+    if outcomes.len() <= index {
+        return 0;
+    }
+    outcomes[index]
+}
+
+// What is found of the rule at an index, under the first `count` held ranges.
+pub fn verdict_at<'a>(
+    rules: &[u64],
+    outcomes: &[u8],
+    index: usize,
+    starts: &'a [u64; 256],
+    ends: &'a [u64; 256],
+    count: usize,
+) -> Verdict
+    ensures { λ r. ⌜ r ≡ cond (isRemoved (rangeList (min count 256) (now (starts .entry)) (now (ends .entry))) (recordId (getD (ruleList (now (rules .entry))) index noRule)))
+        Verdict.Removed (verdictBy (getD (now (outcomes .entry)) index 0)) ⌝ }
+{
+    let id = ruleset::rule_id(ruleset::rule_at(rules, index));
+    let removed = held::is_removed(starts, ends, count, id);
+    verdict(removed, outcome_at(outcomes, index))
 }
 
 // The number of a verdict in the journal.

@@ -1,0 +1,5 @@
+pub mod RecordLaws
+pub mod StepLaws
+pub mod RuleLaws
+pub mod UnitLaws
+pub mod Fits

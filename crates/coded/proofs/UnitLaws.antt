@@ -1,0 +1,127 @@
+-- The members of a unit, one after the other.
+use Prim.Native.Nat.{ℕ, _+_, _/_, _≤_, _<_, _*_}
+use mathlib.Core.Path.{_≡_, refl, sym, ap, subst, _∙_}
+use mathlib.Core.Bool.{Bool, true, false, _&&_, _||_}
+use mathlib.Core.List.{List, [], _∷_, _++_}
+use native.Mathlib.Omega.{arith}
+use native.Mathlib.Numerals.{add-one}
+use borrow.Author.Tests.{eq-eqb, ne-eqb}
+use lib.Dec.{eqb}
+use lib.ListN.{length, drop, getD, drop-of-length-le}
+use Rattle.reading.specs.declared.Rule.{Rule}
+use Rattle.reading.specs.Lists.{keep}
+use Rattle.reading.specs.Records.{journalList, matchedIn}
+use Rattle.reading.specs.Call.{noRule}
+use Rattle.reading.specs.Controls as reading
+use Rattle.control.specs.declared.Controls.{Controls}
+use Rattle.control.specs.Held.{controlsOf, Became}
+use Rattle.control.proofs.Chained.{became-same, became-then}
+use Rattle.coded.specs.Coded.{Source, ruleCoded, ruleChanges, unitCoded, unitChanges}
+use Rattle.coded.proofs.RecordLaws.{length-journal, entries-from}
+use Rattle.coded.proofs.StepLaws.{Grown, grown-same, grown-then}
+use Rattle.coded.proofs.RuleLaws.{rule-grown}
+
+-- the members among the entries from an index on
+abbrev pub membersFrom : List ℕ → ℕ → List ℕ
+membersFrom words i = matchedIn (drop i (journalList words))
+
+module _ (words : List ℕ) (i : ℕ) (h : i < length words / 2) where
+  members-from : membersFrom words i
+      ≡ keep (eqb (getD words (2 * i + 1) 0) 1) (getD words (2 * i) 0 ∷ []) ++ membersFrom words (i + 1)
+  members-from = rw (add-one i) (ap matchedIn (entries-from words i h))
+
+  pub member-here : getD words (2 * i + 1) 0 ≡ 1 → membersFrom words i ≡ getD words (2 * i) 0 ∷ membersFrom words (i + 1)
+  member-here e =
+      members-from
+      ∙ ap (λ (b : Bool). keep b (getD words (2 * i) 0 ∷ []) ++ membersFrom words (i + 1)) (eq-eqb (getD words (2 * i + 1) 0) 1 e)
+
+  pub no-member : (getD words (2 * i + 1) 0 ≡ 1 → ⊥) → membersFrom words i ≡ membersFrom words (i + 1)
+  no-member e =
+      members-from
+      ∙ ap (λ (b : Bool). keep b (getD words (2 * i) 0 ∷ []) ++ membersFrom words (i + 1)) (ne-eqb (getD words (2 * i + 1) 0) 1 e)
+
+pub members-end : (words : List ℕ) (i : ℕ) → length words / 2 ≤ i → membersFrom words i ≡ []
+members-end words i h =
+    let l : length (journalList words) ≤ i = omega (arith, length-journal words) in
+    ap matchedIn (drop-of-length-le (journalList words) l)
+
+-- WHETHER A UNIT CHANGES THE CONTROLS
+
+module _ (codes : List ℕ) (rules : List Rule) (words : List ℕ) (i : ℕ) (t b : Bool) (h : i < length words / 2)
+    (is : unitChanges codes rules (membersFrom words i) ≡ t)
+    (tested : b ≡ (eqb (getD words (2 * i + 1) 0) 1 && ruleChanges codes (getD rules (getD words (2 * i) 0) noRule))) where
+  split : (b || unitChanges codes rules (membersFrom words (i + 1))) ≡ t
+  split =
+      ap (λ (x : Bool). x || unitChanges codes rules (membersFrom words (i + 1))) tested
+      ∙ (go (eqb (getD words (2 * i + 1) 0) 1)
+      ∙ (sym (ap (unitChanges codes rules) (members-from words i h)) ∙ is))
+    where
+      go : (v : Bool)
+          → ((v && ruleChanges codes (getD rules (getD words (2 * i) 0) noRule)) || unitChanges codes rules (membersFrom words (i + 1)))
+          ≡ unitChanges codes rules (keep v (getD words (2 * i) 0 ∷ []) ++ membersFrom words (i + 1))
+      go true = refl
+      go false = refl
+
+  pub unit-found : b ≡ true → true ≡ t
+  unit-found e = ap (λ (x : Bool). x || unitChanges codes rules (membersFrom words (i + 1))) (sym e) ∙ split
+
+  pub unit-more : b ≡ false → unitChanges codes rules (membersFrom words (i + 1)) ≡ t
+  unit-more e = ap (λ (x : Bool). x || unitChanges codes rules (membersFrom words (i + 1))) (sym e) ∙ split
+
+-- WHAT A UNIT DOES TO THE CONTROLS
+
+pub unit-grown : (s : Source) (codes : List ℕ) (rules : List Rule) (ms : List ℕ) (x : reading.Controls)
+    → Grown x (unitCoded s codes rules ms x)
+unit-grown s codes rules [] x = grown-same x
+unit-grown s codes rules (m ∷ ms) x =
+    let y = ruleCoded s codes (getD rules m noRule) x in
+    grown-then x y (unitCoded s codes rules ms y) (rule-grown s codes (getD rules m noRule) x) (unit-grown s codes rules ms y)
+
+-- the members before entry i gone over: r is what they made of c, and what the others make of r is what all make of c
+pub record Across (source : Source) (codes : List ℕ) (rules : List Rule) (words : List ℕ) (c r : Controls) (i : ℕ) : Type 0 where
+  pub kept : Became c r (controlsOf r)
+  pub rest : unitCoded source codes rules (membersFrom words i) (controlsOf r)
+      ≡ unitCoded source codes rules (matchedIn (journalList words)) (controlsOf c)
+
+pub across-none : (source : Source) (codes : List ℕ) (rules : List Rule) (words : List ℕ) (c : Controls) → Across source codes rules words c c 0
+across-none source codes rules words c = record { kept = became-same c; rest = refl }
+
+module _ (source : Source) (codes : List ℕ) (rules : List Rule) (words : List ℕ) (c r : Controls) (i : ℕ)
+    (across : Across source codes rules words c r i) where
+  -- the members from entry i on are those of a list
+  rest-of : (ms : List ℕ) → membersFrom words i ≡ ms
+      → unitCoded source codes rules ms (controlsOf r) ≡ unitCoded source codes rules (matchedIn (journalList words)) (controlsOf c)
+  rest-of ms e = ap (λ (l : List ℕ). unitCoded source codes rules l (controlsOf r)) (sym e) ∙ across .rest
+
+  -- r′ is what the turn leaves
+  pub across-past : (r′ : Controls) → i < length words / 2 → (getD words (2 * i + 1) 0 ≡ 1 → ⊥) → r′ ≡ r
+      → Across source codes rules words c r′ (i + 1)
+  across-past r′ h n e =
+      subst (λ (x : Controls). Across source codes rules words c x (i + 1)) (sym e)
+      (record { kept = across .kept; rest = rest-of (membersFrom words (i + 1)) (no-member words i h n) })
+
+  pub across-member : (rule : Rule) (made r′ : Controls) → i < length words / 2 → getD words (2 * i + 1) 0 ≡ 1
+      → rule ≡ getD rules (getD words (2 * i) 0) noRule → Became r made (ruleCoded source codes rule (controlsOf r)) → r′ ≡ made
+      → Across source codes rules words c r′ (i + 1)
+  across-member rule made r′ h n is b e =
+      let g = rule-grown source codes rule (controlsOf r) in
+      let both = became-then (across .kept) b (g .ranges) (g .targets) in
+      let by : controlsOf made ≡ ruleCoded source codes (getD rules (getD words (2 * i) 0) noRule) (controlsOf r)
+      = b .meaning ∙ ap (λ (a : Rule). ruleCoded source codes a (controlsOf r)) is in
+      subst (λ (x : Controls). Across source codes rules words c x (i + 1)) (sym e)
+      (record {
+        kept = record { meaning = refl; starts = both .starts; ends = both .ends; phases = both .phases; positions = both .positions };
+        rest = ap (unitCoded source codes rules (membersFrom words (i + 1))) by
+            ∙ rest-of (getD words (2 * i) 0 ∷ membersFrom words (i + 1)) (member-here words i h n);
+      })
+
+  pub across-end : length words / 2 ≤ i
+      → Became c r (unitCoded source codes rules (matchedIn (journalList words)) (controlsOf c))
+  across-end h =
+      record {
+        meaning = rest-of [] (members-end words i h);
+        starts = across .kept .starts;
+        ends = across .kept .ends;
+        phases = across .kept .phases;
+        positions = across .kept .positions;
+      }

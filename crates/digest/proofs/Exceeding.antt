@@ -1,0 +1,68 @@
+-- What is left of a limit after the rules passed.
+use Prim.Native.Nat.{ℕ, _+_, _-_, _*_, _/_, _≤_, _<_, min}
+use mathlib.Core.Path.{_≡_, sym, ap, _∙_}
+use mathlib.Core.Bool.{true, false}
+use mathlib.Core.List.{List}
+use native.Mathlib.Omega.{arith}
+use borrow.Author.Tests.{lt-ltb, le-ltb}
+use lib.Dec.{ltb}
+use lib.ListN.{length, take, drop, getD}
+use lib.Seq.{take-all}
+use Rattle.reading.specs.declared.Rule.{Rule}
+use Rattle.reading.specs.Lists.{total}
+use Rattle.reading.specs.Records.{ruleList}
+use Rattle.digest.specs.Codes.{ruleWeight}
+use Rattle.digest.proofs.TotalLaws.{clip-take, total-take-le, total-none, total-part-le}
+use Rattle.digest.proofs.Summing.{length-rules, rules-more}
+
+-- what is held, what the rules up to index i add, and what is left make the limit
+pub record Left (w : ℕ → ℕ) (codes rules : List ℕ) (held limit left i : ℕ) : Type 0 where
+  pub within : i ≤ length rules / 5
+  pub sum : held + total (ruleWeight w codes) (take i (ruleList rules)) + left ≡ limit
+
+module _ (w : ℕ → ℕ) (all rules : List ℕ) (held limit : ℕ) where
+  pub over-held : limit < held → true ≡ ltb limit (held + total (ruleWeight w (take 4096 all)) (ruleList rules))
+  over-held h = sym (lt-ltb limit _ (omega arith))
+
+  module _ (n : ℕ) (n-is : n ≡ min 4096 (length all)) where
+    first-codes : take n all ≡ take 4096 all
+    first-codes = ap (λ (k : ℕ). take k all) n-is ∙ clip-take 4096 all
+
+    -- no code weighs anything
+    pub left-all : held ≤ limit → total w (take n all) ≡ 0
+        → false ≡ ltb limit (held + total (ruleWeight w (take 4096 all)) (ruleList rules))
+    left-all h none =
+        let each : (r : Rule) → ruleWeight w (take n all) r ≡ 0
+        = λ r. omega (arith, total-part-le w (r .first) (r .count) (take n all)) in
+        let a : held + total (ruleWeight w (take n all)) (ruleList rules) ≤ limit
+        = omega (arith, total-none (ruleWeight w (take n all)) each (ruleList rules)) in
+        rw (← first-codes) (sym (le-ltb limit _ a))
+
+    pub left-none : held ≤ limit → Left w (take n all) rules held limit (limit - held) 0
+    left-none h = record { within = omega arith; sum = omega arith }
+
+    module _ (left i : ℕ) (so : Left w (take n all) rules held limit left i) where
+      -- a rule that adds more than is left
+      pub left-over : i < length rules / 5
+          → left < total w (take (getD rules (5 * i + 4) 0) (drop (getD rules (5 * i + 3) 0) (take n all)))
+          → true ≡ ltb limit (held + total (ruleWeight w (take 4096 all)) (ruleList rules))
+      left-over h few =
+          let a = rules-more w (take n all) rules i h in
+          let b = total-take-le (ruleWeight w (take n all)) (i + 1) (ruleList rules) in
+          let c : limit < held + total (ruleWeight w (take n all)) (ruleList rules) = omega (arith, so .sum) in
+          rw (← first-codes) (sym (lt-ltb limit _ c))
+
+      pub left-more : i < length rules / 5
+          → (added : ℕ) → added ≡ total w (take (getD rules (5 * i + 4) 0) (drop (getD rules (5 * i + 3) 0) (take n all)))
+          → added ≤ left
+          → Left w (take n all) rules held limit (left - added) (i + 1)
+      left-more h added e few =
+          let a = rules-more w (take n all) rules i h in
+          record { within = omega arith; sum = omega (arith, so .sum) }
+
+      pub left-end : length rules / 5 ≤ i → false ≡ ltb limit (held + total (ruleWeight w (take 4096 all)) (ruleList rules))
+      left-end h =
+          let whole : take i (ruleList rules) ≡ ruleList rules = take-all i (ruleList rules) (omega (arith, length-rules rules)) in
+          let a : held + total (ruleWeight w (take n all)) (ruleList rules) ≤ limit
+          = omega (arith, so .sum, ap (total (ruleWeight w (take n all))) whole) in
+          rw (← first-codes) (sym (le-ltb limit _ a))

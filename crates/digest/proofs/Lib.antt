@@ -1,0 +1,6 @@
+-- Laws on plain lists and numbers, for the proofs of the functions and of the crates above.
+pub mod TotalLaws
+pub mod Writing
+pub mod Summing
+pub mod Exceeding
+pub mod Refused

@@ -1,0 +1,288 @@
+// The phase call (`Transaction::run_phase` in engine/transaction.rs), by value: transaction in, transaction and answer out.
+use control::Controls;
+use control::Settings;
+use intervention::Ending;
+use reading::OptionIntervention;
+use reading::RuleEngineMode;
+use reading::Verdict;
+use refusals::Sizes;
+use visit::State;
+ghost use mathlib.Core.Path.{_≡_};
+ghost use mathlib.Core.Bool.{_||_, not};
+ghost use Prim.Native.Nat.{_≤_};
+ghost use mathlib.Core.List.{[], _∷_};
+ghost use lib.Dec.{eqb};
+ghost use lib.ListN.{length};
+ghost use Rattle.reading.specs.Lists.{over};
+ghost use Rattle.reading.specs.Numbers.{modeNumbered, verdictNumber};
+ghost use Rattle.reading.specs.Controls.{isOff, modeOr};
+ghost use Rattle.reading.specs.Walk.{isStopped};
+ghost use Rattle.transaction.specs.Phase.{callOf, Ran};
+ghost use Rattle.transaction.specs.Walked.{isGoing, endedBy, Ready, Walked};
+
+// A transaction: the controls, the allowed flag, an intervention or none, and how many matched ids and data entries are in use.
+pub struct Transaction {
+    pub controls: Controls,
+    pub allowed: bool,
+    pub intervention: OptionIntervention,
+    pub ids: usize,
+    pub entries: usize,
+}
+
+// What a phase call answers: 0, 10, or the number of a refusal; the index of the rule that had the error, with 10; how many
+// entries the journal holds; and the transaction after the call.
+pub struct Phase {
+    pub answer: u64,
+    pub error: u64,
+    pub visits: usize,
+    pub transaction: Transaction,
+}
+
+// The mode of a number; refusal 1 turns every number above 2 away.
+fn mode_numbered(mode: u64) -> RuleEngineMode
+    ensures { λ r. ⌜ r ≡ modeNumbered mode ⌝ }
+{
+    if mode == 0 {
+        return RuleEngineMode::On;
+    }
+    if mode == 1 {
+        return RuleEngineMode::DetectionOnly;
+    }
+    RuleEngineMode::Off
+}
+
+// The mode under the settings.
+fn mode_under(ruleset_mode: RuleEngineMode, settings: Settings) -> RuleEngineMode
+    ensures { λ r. ⌜ r ≡ modeOr «ruleset_mode» (settings .mode) ⌝ }
+{
+    let setting = settings.mode;
+    held::mode_or(ruleset_mode, setting)
+}
+
+// Whether a visit is the last: it ended the phase, or the mode is Off behind it.
+fn is_last(ending: Ending, mode: RuleEngineMode) -> bool
+    ensures { λ r. ⌜ r ≡ (not (isGoing ending) || isOff mode) ⌝ }
+{
+    match ending {
+        Ending::GoesOn => intervention::is_off(mode),
+        Ending::Allows => true,
+        Ending::Errs => true,
+        Ending::Stops => true,
+    }
+}
+
+// Writes a journal entry at the start of the journal's free part.
+fn put_visit(index: usize, found: Verdict, journal: &mut [u64])
+    requires { ⌜ 2 ≤ length (now journal) ⌝ }
+    ensures { λ _. ⌜ now (journal .exit) ≡ over (now (journal .entry)) (index ∷ verdictNumber found ∷ []) ⌝ }
+{
+    journal[0] = index as u64;
+    journal[1] = visit::verdict_number(found);
+}
+
+// The answer of a walk that ended so at the rule `last`. The transaction had no allow and no intervention.
+fn ended(
+    ending: Ending,
+    last: usize,
+    visits: usize,
+    ids: usize,
+    entries: usize,
+    stop: OptionIntervention,
+    controls: Controls,
+) -> Phase
+    ensures { λ r. ⌜ r ≡ endedBy ending last visits ids entries stop controls ⌝ }
+{
+    match ending {
+        Ending::GoesOn => Phase { answer: 0, error: 0, visits, transaction: Transaction { controls, allowed: false, intervention: stop, ids, entries } },
+        Ending::Allows => Phase { answer: 0, error: 0, visits, transaction: Transaction { controls, allowed: true, intervention: stop, ids, entries } },
+        Ending::Errs => Phase { answer: 10, error: last as u64, visits, transaction: Transaction { controls, allowed: false, intervention: stop, ids, entries } },
+        Ending::Stops => Phase { answer: 0, error: 0, visits, transaction: Transaction { controls, allowed: false, intervention: stop, ids, entries } },
+    }
+}
+
+// The walk from the first rule on, where nothing stands against it. The controls are passed by value only where a closed unit
+// changes them.
+fn walk_rules(
+    t: Transaction,
+    phase: u64,
+    mode: u64,
+    status: u64,
+    rules: &[u64],
+    actions: &[u64],
+    markers: &[u64],
+    text: &[u8],
+    outcomes: &[u8],
+    codes: &[u16],
+    ids: &mut [u64],
+    entries: &mut [u64],
+    journal: &mut [u64],
+) -> Phase
+    requires { ⌜ Ready (callOf phase mode status (now rules) (now actions) (now markers) (now text) (now outcomes) t (now ids) (now entries) (now journal)) t (now codes) (now ids) (now entries) (now journal) ⌝ }
+    ensures { λ r. ⌜ Walked (callOf phase mode status (now (rules .entry)) (now (actions .entry)) (now (markers .entry)) (now (text .entry)) (now (outcomes .entry)) t (now (ids .entry)) (now (entries .entry)) (now (journal .entry)))
+        t (now (ids .entry)) (now (entries .entry)) (now (journal .entry)) r (now (ids .exit)) (now (entries .exit)) (now (journal .exit)) ⌝ }
+{
+    let ruleset_mode = mode_numbered(mode);
+    let n = rules.len() / 5;
+    let mut c = t.controls;
+    let mut s = State {
+        next: 0,
+        chained: false,
+        first: 0,
+    };
+    let mut visits = 0;
+    let mut listed = t.ids;
+    let mut written = t.entries;
+    while s.next < n {
+        let next = s.next;
+        let count = c.ranges;
+        let found = visit::verdict_at(rules, outcomes, next, &c.starts, &c.ends, count);
+        let v = visit::visit(rules, s, visits, found);
+        let place = 2 * visits;
+        put_visit(next, found, &mut journal[place..]);
+        visits += 1;
+        let after = v.after;
+        let closes = v.closes;
+        let from = 2 * after.first;
+        let to = 2 * visits;
+        let free = 4 * written;
+        let u = unit::close_unit(
+            closes,
+            after.next,
+            phase,
+            &journal[from..to],
+            rules,
+            actions,
+            markers,
+            text,
+            outcomes,
+            &mut ids[listed..],
+            &mut entries[free..],
+        );
+        listed += u.ids;
+        written += u.entries;
+        if coded::changes(closes, &journal[from..to], rules, codes) {
+            c = coded::unit_controls(c, &journal[from..to], rules, actions, text, codes, phase);
+        }
+        let settings = c.settings;
+        let now = mode_under(ruleset_mode, settings);
+        let disruptive = u.disruptive;
+        let e = intervention::ending(found, disruptive, now);
+        if is_last(e, now) {
+            let stop = intervention::stopped(e, &journal[from..to], rules, actions, phase, status);
+            return ended(e, next, visits, listed, written, stop, c);
+        }
+        s = State {
+            next: u.next,
+            chained: after.chained,
+            first: after.first,
+        };
+    }
+    ended(
+        Ending::GoesOn,
+        0,
+        visits,
+        listed,
+        written,
+        OptionIntervention::None,
+        c,
+    )
+}
+
+// An answer that leaves the transaction as it was.
+fn as_lent(answer: u64, t: Transaction) -> Phase
+    ensures { λ r. ⌜ r ≡ record { answer = answer; error = 0; visits = 0; transaction = t } ⌝ }
+{
+    Phase {
+        answer,
+        error: 0,
+        visits: 0,
+        transaction: t,
+    }
+}
+
+// Whether an intervention is held.
+fn is_stopped(intervention: OptionIntervention) -> bool
+    ensures { λ r. ⌜ r ≡ isStopped intervention ⌝ }
+{
+    match intervention {
+        OptionIntervention::None => false,
+        OptionIntervention::Some(_) => true,
+    }
+}
+
+// Nothing is done if already allowed or stopped, if the mode is Off, or if there are no rules.
+fn is_idle(allowed: bool, stopped: bool, mode: RuleEngineMode, rules: usize) -> bool
+    ensures { λ r. ⌜ r ≡ (allowed || stopped || isOff mode || eqb rules 0) ⌝ }
+{
+    if allowed {
+        return true;
+    }
+    if stopped {
+        return true;
+    }
+    if intervention::is_off(mode) {
+        return true;
+    }
+    rules == 0
+}
+
+// The phase call. Refusals first, in their order; a refused call leaves everything as it was lent. Ids and data entries are
+// written at the free ends of their lists, the journal from its start.
+pub fn phase(
+    t: Transaction,
+    phase: u64,
+    mode: u64,
+    status: u64,
+    rules: &[u64],
+    actions: &[u64],
+    markers: &[u64],
+    text: &[u8],
+    outcomes: &[u8],
+    ids: &mut [u64],
+    entries: &mut [u64],
+    journal: &mut [u64],
+) -> Phase
+    ensures { λ r. ⌜ Ran (callOf phase mode status (now (rules .entry)) (now (actions .entry)) (now (markers .entry)) (now (text .entry)) (now (outcomes .entry)) t (now (ids .entry)) (now (entries .entry)) (now (journal .entry)))
+        t (now (entries .entry)) (now (journal .entry)) r (now (ids .exit)) (now (entries .exit)) (now (journal .exit)) ⌝ }
+{
+    let c = t.controls;
+    let ranges = c.ranges;
+    let targets = c.targets;
+    let sizes = Sizes {
+        ranges,
+        targets,
+        ids_used: t.ids,
+        entries_used: t.entries,
+        ids: ids.len(),
+        entries: entries.len() / 4,
+        journal: journal.len() / 2,
+    };
+    let refusal = refusals::first_refusal(
+        phase, mode, rules, actions, markers, text, outcomes, sizes,
+    );
+    if refusal != 0 {
+        return as_lent(refusal, t);
+    }
+    let mut codes = [0u16; 4096];
+    digest::digest(actions, text, &mut codes[0..]);
+    let used = actions.len() / 6;
+    if digest::too_many_ranges(rules, &codes[0..used], ranges) {
+        return as_lent(8, t);
+    }
+    if digest::too_many_targets(rules, &codes[0..used], targets) {
+        return as_lent(9, t);
+    }
+    let settings = c.settings;
+    let held = t.intervention;
+    if is_idle(
+        t.allowed,
+        is_stopped(held),
+        mode_under(mode_numbered(mode), settings),
+        rules.len() / 5,
+    ) {
+        return as_lent(0, t);
+    }
+    walk_rules(
+        t, phase, mode, status, rules, actions, markers, text, outcomes, &codes[0..4096], ids, entries, journal,
+    )
+}
