@@ -1,4 +1,5 @@
 -- How a visit leaves the phase.
+use Prim.Native.Nat.{ℕ}
 use mathlib.Core.Bool.{Bool, true, false, cond, _&&_}
 use Rattle.reading.specs.declared.Verdict.{Verdict}
 use Rattle.reading.specs.declared.RuleEngineMode.{RuleEngineMode}
@@ -22,6 +23,17 @@ endBy found d mode =
     cond (isError found) Ending.Errs
     (cond (isAllow d) Ending.Allows
     (cond (isStopping d && isOn mode) Ending.Stops Ending.GoesOn))
+
+-- the status of a disruptive action, given the caller's default: `stopStatus` by the Rust's reading, which asks no status
+-- action. Only a private function cites this.
+abbrev pub statusBy : DisruptiveOutcome → ℕ → ℕ
+statusBy DisruptiveOutcome.Nothing status = 0
+statusBy DisruptiveOutcome.Deny status = 403
+statusBy DisruptiveOutcome.Block status = status
+statusBy DisruptiveOutcome.Pass status = 0
+statusBy DisruptiveOutcome.Allow status = 0
+statusBy (DisruptiveOutcome.Redirect at) status = 302
+statusBy DisruptiveOutcome.Drop status = 444
 
 -- the intervention, where the phase is stopped
 abbrev pub stoppedBy : Ending → Intervention → OptionIntervention

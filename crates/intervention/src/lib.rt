@@ -14,7 +14,7 @@ ghost use Rattle.reading.specs.Controls.{isOff, isOn};
 ghost use Rattle.reading.specs.Records.{journalList, matchedIn};
 ghost use Rattle.reading.specs.Units.{isAllow, isStopping, drops, addressOf, ifDifferent, unitIntervention};
 ghost use Rattle.members.specs.Given.{Rest, callWith};
-ghost use Rattle.intervention.specs.Ends.{isError, endBy, stoppedBy};
+ghost use Rattle.intervention.specs.Ends.{isError, endBy, statusBy, stoppedBy};
 
 // How a visit leaves the phase.
 pub enum Ending {
@@ -27,10 +27,187 @@ pub enum Ending {
 // Whether a mode is Off.
 pub fn is_off(mode: RuleEngineMode) -> bool
     ensures { λ r. ⌜ r ≡ isOff mode ⌝ }
+{
+    match mode {
+        RuleEngineMode::On => false,
+        RuleEngineMode::DetectionOnly => false, // rules are visited as in On
+        RuleEngineMode::Off => true,
+    }
+}
+
+// Whether a mode is On.
+fn is_on(mode: RuleEngineMode) -> bool
+    ensures { λ r. ⌜ r ≡ isOn mode ⌝ }
+{
+    match mode {
+        RuleEngineMode::On => true,
+        RuleEngineMode::DetectionOnly => false, // nothing is stopped
+        RuleEngineMode::Off => false,
+    }
+}
+
+// Whether a rule error was found.
+fn is_error(found: Verdict) -> bool
+    ensures { λ r. ⌜ r ≡ isError found ⌝ }
+{
+    match found {
+        Verdict::Missed => false,
+        Verdict::Matched => false,
+        Verdict::Removed => false,
+        Verdict::Error => true,
+    }
+}
+
+// Whether a disruptive action is allow.
+fn allows(disruptive: DisruptiveOutcome) -> bool
+    ensures { λ r. ⌜ r ≡ isAllow disruptive ⌝ }
+{
+    match disruptive {
+        DisruptiveOutcome::Nothing => false,
+        DisruptiveOutcome::Deny => false,
+        DisruptiveOutcome::Block => false,
+        DisruptiveOutcome::Pass => false,
+        DisruptiveOutcome::Allow => true,
+        DisruptiveOutcome::Redirect(_) => false,
+        DisruptiveOutcome::Drop => false,
+    }
+}
+
+// Whether a disruptive action is one of the four that stop a request.
+fn stops(disruptive: DisruptiveOutcome) -> bool
+    ensures { λ r. ⌜ r ≡ isStopping disruptive ⌝ }
+{
+    match disruptive {
+        DisruptiveOutcome::Nothing => false,
+        DisruptiveOutcome::Deny => true,
+        DisruptiveOutcome::Block => true,
+        DisruptiveOutcome::Pass => false,
+        DisruptiveOutcome::Allow => false,
+        DisruptiveOutcome::Redirect(_) => true,
+        DisruptiveOutcome::Drop => true,
+    }
+}
 
 // How a visit leaves the phase, given what was found, the closed unit's last disruptive action (or `Nothing`), and the mode.
-pub fn ending(found: Verdict, disruptive: DisruptiveOutcome, mode: RuleEngineMode) -> Ending
+pub fn end_of(found: Verdict, disruptive: DisruptiveOutcome, mode: RuleEngineMode) -> Ending
     ensures { λ r. ⌜ r ≡ endBy found disruptive mode ⌝ }
+{
+    if is_error(found) {
+        return Ending::Errs;
+    }
+    // allow takes effect in any mode
+    if allows(disruptive) {
+        return Ending::Allows;
+    }
+    if stops(disruptive) {
+        if is_on(mode) {
+            return Ending::Stops;
+        }
+    }
+    Ending::GoesOn
+}
+
+// The status of a disruptive action that stops, given the caller's default. A status action does nothing.
+fn status_of(disruptive: DisruptiveOutcome, status: u64) -> u64
+    ensures { λ r. ⌜ r ≡ statusBy disruptive status ⌝ }
+{
+    match disruptive {
+        DisruptiveOutcome::Nothing => 0,
+        DisruptiveOutcome::Deny => 403,
+        DisruptiveOutcome::Block => status,
+        DisruptiveOutcome::Pass => 0,
+        DisruptiveOutcome::Allow => 0,
+        DisruptiveOutcome::Redirect(_) => 302,
+        DisruptiveOutcome::Drop => 444,
+    }
+}
+
+// Whether a disruptive action drops the connection.
+fn is_drop(disruptive: DisruptiveOutcome) -> bool
+    ensures { λ r. ⌜ r ≡ drops disruptive ⌝ }
+{
+    match disruptive {
+        DisruptiveOutcome::Nothing => false,
+        DisruptiveOutcome::Deny => false,
+        DisruptiveOutcome::Block => false,
+        DisruptiveOutcome::Pass => false,
+        DisruptiveOutcome::Allow => false,
+        DisruptiveOutcome::Redirect(_) => false,
+        DisruptiveOutcome::Drop => true,
+    }
+}
+
+// The address of a redirect, kept as its place.
+fn address_of(phase: u64, disruptive: DisruptiveOutcome) -> OptionPlace
+    ensures { λ r. ⌜ r ≡ addressOf phase disruptive ⌝ }
+{
+    match disruptive {
+        DisruptiveOutcome::Nothing => OptionPlace::None,
+        DisruptiveOutcome::Deny => OptionPlace::None,
+        DisruptiveOutcome::Block => OptionPlace::None,
+        DisruptiveOutcome::Pass => OptionPlace::None,
+        DisruptiveOutcome::Allow => OptionPlace::None,
+        DisruptiveOutcome::Redirect(position) => OptionPlace::Some(Place { phase, position }),
+        DisruptiveOutcome::Drop => OptionPlace::None,
+    }
+}
+
+// A second id, where it is not the first once more.
+fn if_different(first: OptionU64, id: OptionU64) -> OptionU64
+    ensures { λ r. ⌜ r ≡ ifDifferent first id ⌝ }
+{
+    let OptionU64::Some(a) = first else {
+        return id;
+    };
+    let OptionU64::Some(b) = id else {
+        return OptionU64::None;
+    };
+    if a == b {
+        return OptionU64::None;
+    }
+    id
+}
+
+// The intervention of a unit, whose members are the matched entries of a part of the journal.
+fn unit_intervention(
+    members: &[u64],
+    rules: &[u64],
+    actions: &[u64],
+    phase: u64,
+    status: u64,
+) -> Intervention
+    ensures { λ r. ⌜ ((markers text outcomes : List ℕ) (rest : Rest) → rest .status ≡ status
+        → r ≡ unitIntervention (callWith phase (now (rules .entry)) (now (actions .entry)) markers text outcomes rest)
+        (matchedIn (journalList (now (members .entry))))) ⌝ }
+{
+    let starter = members::starter_of(members);
+    let closer = members::closer_of(members);
+    // the positions of the control actions are not asked for here
+    let mut none = [0u64; 1];
+    let done = actions::execute_actions(
+        actions,
+        ruleset::rule_at(rules, starter as usize),
+        phase,
+        &mut none[1..],
+    );
+    let closing = ruleset::rule_id(ruleset::rule_at(rules, closer as usize));
+    let disruptive = done.disruptive;
+    let metadata = done.metadata;
+    let id = metadata.id;
+    let log = metadata.msg;
+    let url = address_of(phase, disruptive);
+    let other = if_different(closing, id);
+    Intervention {
+        status: status_of(disruptive, status),
+        url,
+        log,
+        closing,
+        starter: other,
+        phase,
+        drop: is_drop(disruptive),
+        metadata,
+    }
+}
 
 // The intervention of a unit, whose members are the matched entries of a part of the journal, where the phase is stopped.
 pub fn stopped(
@@ -44,3 +221,13 @@ pub fn stopped(
     ensures { λ r. ⌜ ((markers text outcomes : List ℕ) (rest : Rest) → rest .status ≡ status
         → r ≡ stoppedBy ending (unitIntervention (callWith phase (now (rules .entry)) (now (actions .entry)) markers text outcomes rest)
         (matchedIn (journalList (now (members .entry)))))) ⌝ }
+{
+    match ending {
+        Ending::GoesOn => OptionIntervention::None,
+        Ending::Allows => OptionIntervention::None,
+        Ending::Errs => OptionIntervention::None,
+        Ending::Stops => {
+            OptionIntervention::Some(unit_intervention(members, rules, actions, phase, status))
+        }
+    }
+}

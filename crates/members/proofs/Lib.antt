@@ -1,1 +1,2 @@
 pub mod MatchedLaws
+pub mod WordLaws

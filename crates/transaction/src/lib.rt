@@ -166,7 +166,7 @@ fn walk_rules(
         let settings = c.settings;
         let now = mode_under(ruleset_mode, settings);
         let disruptive = u.disruptive;
-        let e = intervention::ending(found, disruptive, now);
+        let e = intervention::end_of(found, disruptive, now);
         if is_last(e, now) {
             let stop = intervention::stopped(e, &journal[from..to], rules, actions, phase, status);
             return ended(e, next, visits, listed, written, stop, c);
@@ -228,7 +228,7 @@ fn is_idle(allowed: bool, stopped: bool, mode: RuleEngineMode, rules: usize) -> 
 
 // The phase call. Refusals first, in their order; a refused call leaves everything as it was lent. Ids and data entries are
 // written at the free ends of their lists, the journal from its start.
-pub fn phase(
+pub fn run_phase(
     t: Transaction,
     phase: u64,
     mode: u64,

@@ -1,0 +1,2 @@
+-- Laws on plain values, for the proofs of the functions.
+pub mod UnitLaws

@@ -1,0 +1,41 @@
+-- Lists that are written from a place on, and parts of them. Assumes nothing.
+use Prim.Native.Nat.{ℕ, zero, suc, _+_, _-_, _≤_, _<_}
+use mathlib.Core.Path.{_≡_, refl, sym, ap, subst, _∙_}
+use mathlib.Core.List.{List, [], _∷_, _++_, append-assoc, append-nil}
+use native.Mathlib.Omega.{arith}
+use lib.ListN.{length, take, drop, length-append, length-drop, length-take, drop-of-length-le}
+use lib.Seq.{take-at, drop-at, drop-drop, take-all}
+use Rattle.reading.specs.Lists.{over}
+
+-- a list l whose first k entries are replaced by `a`, of that length, as a callee is lent it from k on
+module _ (a l : List ℕ) (k : ℕ) (is : length a ≡ k) (inside : k ≤ length l) where
+  abbrev whole : List ℕ
+  whole = a ++ drop k l
+
+  abbrev lent : List ℕ
+  lent = take (length whole - k) (drop k whole)
+
+  pub whole-length : length whole ≡ length l
+  whole-length = omega (arith, length-append a (drop k l), length-drop k l)
+
+  pub lent-is : lent ≡ drop k l
+  lent-is = rw (drop-at a (drop k l) k is) (take-all (length whole - k) (drop k l) (omega (arith, whole-length, length-drop k l)))
+
+  pub lent-length : length lent ≡ length l - k
+  lent-length = rw lent-is (length-drop k l)
+
+  -- new entries written from there on
+  pub put-part : (vs last : List ℕ) → last ≡ over lent vs
+      → take k whole ++ (last ++ drop (length whole - k) (drop k whole)) ≡ (a ++ vs) ++ drop (k + length vs) l
+  put-part vs last e =
+      let z : length (drop k l) ≤ length whole - k = omega (arith, whole-length, length-drop k l) in
+      let f : last ≡ vs ++ drop (length vs) (drop k l) = e ∙ ap (λ (m : List ℕ). over m vs) lent-is in
+      rw (
+        take-at a (drop k l) k is,
+        drop-at a (drop k l) k is,
+        drop-of-length-le (drop k l) z,
+        append-nil last,
+        f,
+        drop-drop (length vs) k l,
+        ← append-assoc a vs (drop (k + length vs) l),
+      )
