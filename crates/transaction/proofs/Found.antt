@@ -11,15 +11,18 @@ use lib.ListN.{length, drop, getD, drop-of-length-le, length-append}
 use lib.Seq.{drop-append-le}
 use Rattle.reading.specs.declared.Verdict.{Verdict}
 use Rattle.reading.specs.declared.JournalEntry.{JournalEntry}
+use Rattle.reading.specs.declared.RuleEngineMode.{RuleEngineMode}
 use Rattle.reading.specs.declared.DisruptiveOutcome.{DisruptiveOutcome}
 use Rattle.reading.specs.Lists.{keep, gather}
-use Rattle.reading.specs.Numbers.{verdictNumber}
+use Rattle.reading.specs.Numbers.{verdictNumber, modeNumbered}
 use Rattle.reading.specs.Records.{matchedIn}
 use Rattle.reading.specs.Reading.{rust}
-use Rattle.reading.specs.Controls.{Controls}
-use Rattle.reading.specs.Call.{Call, ruleCount, ruleAt, isLink, noRule}
+use Rattle.reading.specs.Controls.{Controls, isRemoved, rangeList, modeOr}
+use Rattle.reading.specs.Call.{Call, ruleCount, ruleAt, idAt, outcomeAt, recordId, isLink, noRule, modeUnder}
 use Rattle.reading.specs.Units.{unitControls, unitFlow, unitDisruptive}
-use Rattle.reading.specs.Walk.{State, Visit, visitBy, visitAt, verdictAt, afterChain, afterFlow, entryOf}
+use Rattle.reading.specs.Walk.{State, Visit, visitBy, visitAt, verdictAt, verdictBy, afterChain, afterFlow, entryOf}
+use Rattle.control.specs.declared.Controls as held
+use Rattle.control.specs.Held.{controlsOf}
 use Rattle.members.proofs.MatchedLaws.{matched-append}
 use Rattle.visit.specs.declared.Visited.{Visited}
 use Rattle.visit.specs.declared.State as code
@@ -29,12 +32,25 @@ use Rattle.transaction.proofs.Turns.{true-false}
 false-true : false ≡ true → ⊥
 false-true e = true-false (sym e)
 
+-- what the code finds of a rule is the definition's verdict, as long as all held ranges are in the arrays
+pub found-law : (q : Call) (c : held.Controls) (i : ℕ) (found : Verdict) → c .ranges ≤ 256
+    → found ≡ cond (isRemoved (rangeList (min (c .ranges) 256) (c .starts) (c .ends)) (recordId (getD (q .rules) i noRule))) Verdict.Removed (verdictBy (getD (q .outcomes) i 0))
+    → found ≡ verdictAt q (controlsOf c) i
+unfolding verdictAt idAt ruleAt outcomeAt controlsOf
+found-law q c i found h e = let z : min (c .ranges) 256 ≡ c .ranges = omega arith in rw z at e
+
+-- the mode under the controls of a struct
+pub mode-law : (q : Call) (c : held.Controls) (m now : RuleEngineMode) → m ≡ modeNumbered (q .mode) → now ≡ modeOr m (c .settings .mode)
+    → now ≡ modeUnder q (controlsOf c)
+unfolding controlsOf
+mode-law q c m now e f = rw e at f
+
 -- a rule of the definitions' state, given what is found and whether it is a link; `w` is what the code finds
 module _ (q : Call) (reading : q .reading ≡ rust) (st : State) (chained : Bool) (first : ℕ) where
   abbrev unit : List ℕ
   unit = st .members ++ (st .next ∷ [])
 
-  abbrev byCode : Verdict → Bool → Visited
+  abbrev pub byCode : Verdict → Bool → Visited
   byCode found link = foundBy (st .next + 1) (afterChain q (st .next)) chained first found link
 
   verdict-by : (v : Verdict) (l : Bool) → visitBy q st v l .verdict ≡ v
@@ -121,11 +137,11 @@ module _ (q : Call) (reading : q .reading ≡ rust) (ms : List ℕ) (c : Control
   abbrev byRule : Visited
   byRule = foundBy (s .next + 1) (afterChain q (s .next)) (s .chained) (entryBy s visits) found (isLink q (s .next))
 
-  code-is : w ≡ byRule
+  pub code-is : w ≡ byRule
   unfolding foundAt isLink ruleAt afterChain
   code-is = w-is ∙ rw (lt-ltb (s .next) (ruleCount q) inside)
 
-  visit-is : visitOf ≡ visitBy q stateOf found (isLink q (s .next))
+  pub visit-is : visitOf ≡ visitBy q stateOf found (isLink q (s .next))
   unfolding visitAt
   visit-is = rw found-is
 

@@ -1,3 +1,6 @@
 pub mod Turns
 pub mod Parts
 pub mod Found
+pub mod Ends
+pub mod Progress
+pub mod Turn

@@ -3,7 +3,7 @@ use Prim.Native.Nat.{ℕ, zero, suc, _+_, _-_, _≤_, _<_}
 use mathlib.Core.Path.{_≡_, refl, sym, ap, subst, _∙_}
 use mathlib.Core.List.{List, [], _∷_, _++_, append-assoc, append-nil}
 use native.Mathlib.Omega.{arith}
-use lib.ListN.{length, take, drop, length-append, length-drop, length-take, drop-of-length-le}
+use lib.ListN.{length, take, drop, set, length-append, length-drop, length-take, drop-of-length-le}
 use lib.Seq.{take-at, drop-at, drop-drop, take-all}
 use Rattle.reading.specs.Lists.{over}
 
@@ -39,3 +39,18 @@ module _ (a l : List ℕ) (k : ℕ) (is : length a ≡ k) (inside : k ≤ length
         drop-drop (length vs) k l,
         ← append-assoc a vs (drop (k + length vs) l),
       )
+
+-- two entries stored one after the other
+pub put-two : (l : List ℕ) (x y : ℕ) → 2 ≤ length l → set (set l 0 x) 1 y ≡ over l (x ∷ y ∷ [])
+put-two [] x y h = absurd (omega arith)
+put-two (a ∷ []) x y h = absurd (omega arith)
+put-two (a ∷ b ∷ l) x y h = refl
+
+-- the same of a list that is known to be such
+module _ (a l j : List ℕ) (k : ℕ) (j-is : j ≡ a ++ drop k l) (is : length a ≡ k) (inside : k ≤ length l) where
+  pub free-length : length (take (length j - k) (drop k j)) ≡ length l - k
+  free-length = rw j-is (lent-length a l k is inside)
+
+  pub put-in : (vs last : List ℕ) → last ≡ over (take (length j - k) (drop k j)) vs
+      → take k j ++ (last ++ drop (length j - k) (drop k j)) ≡ (a ++ vs) ++ drop (k + length vs) l
+  put-in vs last e = rw j-is (put-part a l k is inside vs last (rw j-is at e))

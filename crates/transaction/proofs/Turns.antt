@@ -133,7 +133,7 @@ intervention-after (v ∷ l) m g = no-stop (v .ending) (interventionBy (l ++ m))
 
 -- THE CONTROLS ONLY GROW
 
-visit-grows : (q : Call) (st : State) (v : Verdict) (l : Bool) → Grown (st .controls) (visitBy q st v l .after .controls)
+pub visit-grows : (q : Call) (st : State) (v : Verdict) (l : Bool) → Grown (st .controls) (visitBy q st v l .after .controls)
 visit-grows q st Verdict.Missed l = grown-same (st .controls)
 visit-grows q st Verdict.Matched true = grown-same (st .controls)
 visit-grows q st Verdict.Matched false = grows q (st .members ++ (st .next ∷ [])) (st .controls)
@@ -141,7 +141,7 @@ visit-grows q st Verdict.Removed true = grown-same (st .controls)
 visit-grows q st Verdict.Removed false = grown-same (st .controls)
 visit-grows q st Verdict.Error l = grown-same (st .controls)
 
-kept-grows : (c : Controls) (b : Bool) (l : List Visit) → Grown c (controlsAfter c l) → Grown c (controlsAfter c (keep b l))
+pub kept-grows : (c : Controls) (b : Bool) (l : List Visit) → Grown c (controlsAfter c l) → Grown c (controlsAfter c (keep b l))
 kept-grows c true l g = g
 kept-grows c false l g = grown-same c
 

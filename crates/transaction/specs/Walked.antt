@@ -18,6 +18,10 @@ use Rattle.intervention.specs.declared.Ending.{Ending}
 use Rattle.transaction.specs.declared.Transaction.{Transaction}
 use Rattle.transaction.specs.declared.Phase.{Phase}
 
+-- a transaction without allow and intervention
+abbrev pub fresh : Controls → ℕ → ℕ → Transaction
+fresh c ids entries = record { controls = c; allowed = false; intervention = OptionIntervention.None; ids = ids; entries = entries }
+
 -- all visits from the first rule on
 abbrev pub visitsFrom : Call → List Visit
 visitsFrom q = walk (ruleCount q) q (start q)
@@ -31,6 +35,9 @@ pub record Ready (q : Call) (t : Transaction) (codes ids entries journal : List 
   pub ids-room : t .ids + ruleCount q ≤ length ids
   pub entries-room : 4 * (t .entries + ruleCount q) ≤ length entries
   pub journal-room : 2 * ruleCount q ≤ length journal
+  pub visits-few : length (visitsFrom q) ≤ ruleCount q
+  pub ids-few : length (idsOf q (visitsFrom q)) ≤ ruleCount q
+  pub data-few : length (dataOf q (visitsFrom q)) ≤ ruleCount q
   pub ranges : length (controlsAfter (controlsOf (t .controls)) (visitsFrom q) .ranges) ≤ 256
   pub targets : length (controlsAfter (controlsOf (t .controls)) (visitsFrom q) .targets) ≤ 64
   pub not-off : isOff (modeUnder q (controlsOf (t .controls))) ≡ false

@@ -18,7 +18,7 @@ ghost use Rattle.reading.specs.Numbers.{modeNumbered, verdictNumber};
 ghost use Rattle.reading.specs.Controls.{isOff, modeOr};
 ghost use Rattle.reading.specs.Walk.{isStopped};
 ghost use Rattle.transaction.specs.Phase.{callOf, Ran};
-ghost use Rattle.transaction.specs.Walked.{isGoing, endedBy, Ready, Walked};
+ghost use Rattle.transaction.specs.Walked.{fresh, isGoing, endedBy, Ready, Walked};
 
 // A transaction: the controls, the allowed flag, an intervention or none, and how many matched ids and data entries are in use.
 pub struct Transaction {
@@ -103,7 +103,9 @@ fn ended(
 // The walk from the first rule on, where nothing stands against it. The controls are passed by value only where a closed unit
 // changes them.
 fn walk_rules(
-    t: Transaction,
+    held: Controls,
+    listed_before: usize,
+    written_before: usize,
     phase: u64,
     mode: u64,
     status: u64,
@@ -117,21 +119,23 @@ fn walk_rules(
     entries: &mut [u64],
     journal: &mut [u64],
 ) -> Phase
-    requires { ⌜ Ready (callOf phase mode status (now rules) (now actions) (now markers) (now text) (now outcomes) t (now ids) (now entries) (now journal)) t (now codes) (now ids) (now entries) (now journal) ⌝ }
-    ensures { λ r. ⌜ Walked (callOf phase mode status (now (rules .entry)) (now (actions .entry)) (now (markers .entry)) (now (text .entry)) (now (outcomes .entry)) t (now (ids .entry)) (now (entries .entry)) (now (journal .entry)))
-        t (now (ids .entry)) (now (entries .entry)) (now (journal .entry)) r (now (ids .exit)) (now (entries .exit)) (now (journal .exit)) ⌝ }
+    requires { ⌜ (let t = fresh held «listed_before» «written_before» in
+        Ready (callOf phase mode status (now rules) (now actions) (now markers) (now text) (now outcomes) t (now ids) (now entries) (now journal)) t (now codes) (now ids) (now entries) (now journal)) ⌝ }
+    ensures { λ r. ⌜ (let t = fresh held «listed_before» «written_before» in
+        Walked (callOf phase mode status (now (rules .entry)) (now (actions .entry)) (now (markers .entry)) (now (text .entry)) (now (outcomes .entry)) t (now (ids .entry)) (now (entries .entry)) (now (journal .entry)))
+        t (now (ids .entry)) (now (entries .entry)) (now (journal .entry)) r (now (ids .exit)) (now (entries .exit)) (now (journal .exit))) ⌝ }
 {
     let ruleset_mode = mode_numbered(mode);
     let n = rules.len() / 5;
-    let mut c = t.controls;
+    let mut c = held;
     let mut s = State {
         next: 0,
         chained: false,
         first: 0,
     };
     let mut visits = 0;
-    let mut listed = t.ids;
-    let mut written = t.entries;
+    let mut listed = listed_before;
+    let mut written = written_before;
     while s.next < n {
         let next = s.next;
         let count = c.ranges;
@@ -283,6 +287,6 @@ pub fn run_phase(
         return as_lent(0, t);
     }
     walk_rules(
-        t, phase, mode, status, rules, actions, markers, text, outcomes, &codes[0..4096], ids, entries, journal,
+        c, t.ids, t.entries, phase, mode, status, rules, actions, markers, text, outcomes, &codes[0..4096], ids, entries, journal,
     )
 }
