@@ -4,3 +4,5 @@ pub mod Found
 pub mod Ends
 pub mod Progress
 pub mod Turn
+pub mod Promise
+pub mod Tested

@@ -226,9 +226,10 @@ module _ (q : Call) (t : Transaction) (codes ids₀ entries₀ journal₀ : List
         ap (λ (ms : List ℕ). unitCoded (sourceOf q) codes (q .rules) ms (controlsOf c)) (unit-part e)
         ∙ (unit-fits q codes 4096 (ready .digested) unit (controlsOf c) r g ∙ a)
 
-    pub changed-yes : (b : Bool) (c′ : Controls) → b ≡ (w .closes && unitChanges codes (q .rules) part) → b ≡ true
-        → Became c c′ (unitCoded (sourceOf q) codes (q .rules) part (controlsOf c)) → Became c c′ (v .after .controls)
-    changed-yes b c′ e h p = subst (Became c c′) (coded-now (and-by (w .closes) (unitChanges codes (q .rules) part) (sym e ∙ h))) p
+    pub changed-yes : (b : Bool) (c′ d : Controls) → b ≡ (w .closes && unitChanges codes (q .rules) part) → b ≡ true → c′ ≡ d
+        → Became c d (unitCoded (sourceOf q) codes (q .rules) part (controlsOf c)) → Became c c′ (v .after .controls)
+    changed-yes b c′ d e h is p =
+        rw is (subst (Became c d) (coded-now (and-by (w .closes) (unitChanges codes (q .rules) part) (sym e ∙ h))) p)
 
     pub changed-no : (b : Bool) (c′ : Controls) → b ≡ (w .closes && unitChanges codes (q .rules) part) → b ≡ false → c′ ≡ c → Became c c′ (v .after .controls)
     changed-no b c′ e h p = rw p (subst (Became c c) (go (w .closes) refl) (became-same c))

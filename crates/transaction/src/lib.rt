@@ -249,9 +249,8 @@ pub fn run_phase(
     ensures { λ r. ⌜ Ran (callOf phase mode status (now (rules .entry)) (now (actions .entry)) (now (markers .entry)) (now (text .entry)) (now (outcomes .entry)) t (now (ids .entry)) (now (entries .entry)) (now (journal .entry)))
         t (now (entries .entry)) (now (journal .entry)) r (now (ids .exit)) (now (entries .exit)) (now (journal .exit)) ⌝ }
 {
-    let c = t.controls;
-    let ranges = c.ranges;
-    let targets = c.targets;
+    let ranges = t.controls.ranges;
+    let targets = t.controls.targets;
     let sizes = Sizes {
         ranges,
         targets,
@@ -276,7 +275,7 @@ pub fn run_phase(
     if digest::too_many_targets(rules, &codes[0..used], targets) {
         return as_lent(9, t);
     }
-    let settings = c.settings;
+    let settings = t.controls.settings;
     let held = t.intervention;
     if is_idle(
         t.allowed,
@@ -286,6 +285,7 @@ pub fn run_phase(
     ) {
         return as_lent(0, t);
     }
+    let c = t.controls;
     walk_rules(
         c, t.ids, t.entries, phase, mode, status, rules, actions, markers, text, outcomes, &codes[0..4096], ids, entries, journal,
     )

@@ -1,0 +1,288 @@
+-- `transaction::run_phase` meets its contract.
+use Prim.Native.Nat.{ℕ, _≤_, _/_, _-_}
+use mathlib.Core.Path.{_≡_, refl, sym, _∙_}
+use mathlib.Core.Bool.{false}
+use mathlib.Core.List.{List, [], _++_, append-nil}
+use native.Mathlib.Omega.{arith}
+use denote.Ref.{now}
+use lib.ListN.{length, take, drop, replicate}
+use lib.Seq.{take-all}
+use Rattle.reading.specs.Lists.{over}
+use Rattle.reading.specs.Records.{actionList}
+use Rattle.reading.specs.Walk.{nothingToDo}
+use Rattle.reading.specs.Refusals.{refusalOf, refused8, refused9}
+use Rattle.actions.proofs.RecordLaws.{length-actions}
+use Rattle.digest.specs.Codes.{codesOf}
+use Rattle.refusals.specs.Lent.{firstOfSeven}
+use Rattle.transaction.proofs.Promise.{few-of-seven, accepted}
+use Rattle.transaction.proofs.Tested.{Given, callAt, lent-is, idle-is, digested, eighth, ninth}
+use Rattle.transaction.proofs.Tested.{ran-first, ran-eighth, ran-ninth, ran-nothing, ready-at, ran-at}
+use borrow.Author.Needs.{needs}
+use Rattle.transaction.proofs.run_phase.Statement.{statement}
+use Rattle.transaction.proofs.run_phase.Tie as tie
+
+abbrev given : tie.Start → Given
+given c =
+    record {
+      phase = c .args .phase;
+      mode = c .args .mode;
+      status = c .args .status;
+      rules = now (c .args .rules);
+      actions = now (c .args .actions);
+      markers = now (c .args .markers);
+      text = now (c .args .text);
+      outcomes = now (c .args .outcomes);
+      t = c .args .t;
+      ids = now (c .args .ids);
+      entries = now (c .args .entries);
+      journal = now (c .args .journal);
+    }
+
+first-refusal-requires : tie.Need-first-refusal-requires
+first-refusal-requires c κs = search needs
+
+as-lent-requires : tie.Need-as-lent-requires
+as-lent-requires c κs = search needs
+
+-- earlier places, and what was given there
+abbrev past-seven : tie.After-digest → tie.Else1
+past-seven c = c .before .before
+
+abbrev coded : tie.After-too-many-ranges → tie.After-digest
+coded c = c .before .before .before .before
+
+abbrev past-eight : tie.After-too-many-targets → tie.Else2
+past-eight c = c .before .before .before
+
+abbrev coded-then : tie.After-too-many-targets → tie.After-digest
+coded-then c = coded (past-eight c .before)
+
+abbrev past-nine : tie.After-is-idle → tie.Else3
+past-nine c = c .before .before .before .before .before
+
+abbrev given-first : tie.After-first-refusal → Given
+given-first c = given (c .before .before .before .before .before .before .before .before .before)
+
+abbrev given-coded : tie.After-digest → Given
+given-coded c = given-first (past-seven c .before)
+
+abbrev given-idle : tie.After-is-idle → Given
+given-idle c = given-coded (coded-then (past-nine c .before))
+
+-- the codes as `digest` left them
+abbrev left : tie.After-digest → List ℕ
+left c = c .digest .last .1 .1 .0
+
+first : (c : tie.After-first-refusal) → c .first-refusal .result ≡ firstOfSeven (callAt (given-first c))
+first c = c .first-refusal .ensures (callAt (given-first c)) (lent-is (given-first c))
+
+zero : (c : tie.Else1) → firstOfSeven (callAt (given-first (c .before))) ≡ 0
+zero c = sym (first (c .before)) ∙ c .if1 .left
+
+codes : (c : tie.After-digest)
+    → left c ≡ over (replicate 4096 0) (codesOf (given-coded c .text) (actionList (given-coded c .actions)))
+codes c = digested (given-coded c) (zero (past-seven c)) (left c) (c .digest .ensures)
+
+room : (c : tie.After-digest) → length (left c) ≡ 4096
+room c = c .digest .kept .1 .1 .0
+
+-- a part of them that is lent
+fits : (d : List ℕ) (n : ℕ) → n ≤ 4096 → length d ≡ 4096 → n ≤ length (d ++ [])
+fits d n h e = rw append-nil (omega arith)
+
+front : (d : List ℕ) (n : ℕ) → take (n - 0) (drop 0 (d ++ [])) ≡ take n d
+front d n =
+    let z : n - 0 ≡ n = omega arith in
+    rw (z, append-nil d)
+
+few-fit : (c : tie.After-digest) → length (given-coded c .actions) / 6 ≤ length (left c ++ [])
+few-fit c =
+    let few : length (given-coded c .actions) / 6 ≤ 4096 =
+    omega (arith, few-of-seven (callAt (given-coded c)) (zero (past-seven c)), length-actions (given-coded c .actions)) in
+    fits (left c) (length (given-coded c .actions) / 6) few (room c)
+
+eight : (c : tie.After-too-many-ranges) → refused8 (callAt (given-coded (coded c))) ≡ c .too-many-ranges .result
+eight c =
+    let p = coded c in
+    eighth (given-coded p) (zero (past-seven p)) (left p) (codes p) _ (c .too-many-ranges .result)
+    (front (left p) (length (given-coded p .actions) / 6)) (c .too-many-ranges .ensures)
+
+not-eight : (c : tie.Else2) → refused8 (callAt (given-coded (coded (c .before)))) ≡ false
+not-eight c = eight (c .before) ∙ c .if2 .left
+
+nine : (c : tie.After-too-many-targets) → refused9 (callAt (given-coded (coded-then c))) ≡ c .too-many-targets .result
+nine c =
+    let p = coded-then c in
+    ninth (given-coded p) (zero (past-seven p)) (left p) (codes p) _ (c .too-many-targets .result)
+    (front (left p) (length (given-coded p .actions) / 6)) (c .too-many-targets .ensures)
+
+passed : (c : tie.Else3) → refusalOf (callAt (given-coded (coded-then (c .before)))) ≡ 0
+passed c =
+    let p = coded-then (c .before) in
+    accepted (callAt (given-coded p)) (zero (past-seven p)) (not-eight (past-eight (c .before))) (nine (c .before) ∙ c .if3 .left)
+
+idle : (c : tie.After-is-idle) → nothingToDo (callAt (given-idle c)) ≡ c .is-idle .result
+idle c =
+    let s = c .before .before .before .is-stopped in
+    let n = c .before .before .mode-numbered in
+    let m = c .before .mode-under in
+    idle-is (given-idle c) (s .result) (n .result) (m .result) (c .is-idle .result)
+    (s .ensures) (n .ensures) (m .ensures) (c .is-idle .ensures)
+
+returns : tie.Need-returns
+returns c =
+    let p = c .before .before in
+    ran-first (given-first p) (p .first-refusal .result) (c .as-lent .result) (c .as-lent .ensures)
+    (first p) (c .before .if1 .taken)
+
+sub-digest : tie.Need-sub-digest
+sub-digest c = search needs
+
+part-codes-start : tie.Need-part-codes-start
+part-codes-start c = search needs
+
+part-codes-end : tie.Need-part-codes-end
+part-codes-end c = search needs
+
+digest-requires : tie.Need-digest-requires
+digest-requires c κs = search needs
+
+sub-too-many-ranges : tie.Need-sub-too-many-ranges
+sub-too-many-ranges c = search needs
+
+part-too-many-ranges-start : tie.Need-part-too-many-ranges-start
+part-too-many-ranges-start c = search needs
+
+part-too-many-ranges-end : tie.Need-part-too-many-ranges-end
+part-too-many-ranges-end c = few-fit (c .before .before)
+
+too-many-ranges-requires : tie.Need-too-many-ranges-requires
+too-many-ranges-requires c κs = search needs
+
+as-lent-requires-2 : tie.Need-as-lent-requires-2
+as-lent-requires-2 c κs = search needs
+
+returns-2 : tie.Need-returns-2
+returns-2 c =
+    let b = c .before in
+    let p = coded (b .before) in
+    ran-eighth (given-coded p) 8 (c .as-lent2 .result) (c .as-lent2 .ensures) refl (zero (past-seven p))
+    (eight (b .before) ∙ b .if2 .taken)
+
+sub-too-many-targets : tie.Need-sub-too-many-targets
+sub-too-many-targets c = search needs
+
+part-too-many-targets-start : tie.Need-part-too-many-targets-start
+part-too-many-targets-start c = search needs
+
+part-too-many-targets-end : tie.Need-part-too-many-targets-end
+part-too-many-targets-end c = few-fit (c .before .before .before .before .before .before)
+
+too-many-targets-requires : tie.Need-too-many-targets-requires
+too-many-targets-requires c κs = search needs
+
+as-lent-requires-3 : tie.Need-as-lent-requires-3
+as-lent-requires-3 c κs = search needs
+
+returns-3 : tie.Need-returns-3
+returns-3 c =
+    let b = c .before in
+    let p = coded-then (b .before) in
+    ran-ninth (given-coded p) 9 (c .as-lent3 .result) (c .as-lent3 .ensures) refl (zero (past-seven p))
+    (not-eight (past-eight (b .before))) (nine (b .before) ∙ b .if3 .taken)
+
+is-stopped-requires : tie.Need-is-stopped-requires
+is-stopped-requires c κs = search needs
+
+mode-numbered-requires : tie.Need-mode-numbered-requires
+mode-numbered-requires c κs = search needs
+
+mode-under-requires : tie.Need-mode-under-requires
+mode-under-requires c κs = search needs
+
+is-idle-requires : tie.Need-is-idle-requires
+is-idle-requires c κs = search needs
+
+as-lent-requires-4 : tie.Need-as-lent-requires-4
+as-lent-requires-4 c κs = search needs
+
+returns-4 : tie.Need-returns-4
+returns-4 c =
+    let b = c .before in
+    let p = b .before in
+    ran-nothing (given-idle p) (c .as-lent4 .result) (c .as-lent4 .ensures) (passed (past-nine p)) (idle p ∙ b .if4 .taken)
+
+sub-walk-rules : tie.Need-sub-walk-rules
+sub-walk-rules c = search needs
+
+part-walk-rules-start : tie.Need-part-walk-rules-start
+part-walk-rules-start c = search needs
+
+part-walk-rules-end : tie.Need-part-walk-rules-end
+part-walk-rules-end c =
+    let d = coded-then (past-nine (c .before .before .before) .before) in
+    fits (left d) 4096 (omega arith) (room d)
+
+walk-rules-requires : tie.Need-walk-rules-requires
+walk-rules-requires c κs =
+    let b = c .before .before .before .before .before .before in
+    let p = b .before in
+    let d = coded-then (past-nine p .before) in
+    ready-at (given-idle p) (passed (past-nine p)) (idle p ∙ b .if4 .left) _
+    (front (left d) 4096 ∙ (take-all 4096 (left d) (omega (arith, room d)) ∙ codes d))
+
+same-length : tie.Need-same-length
+same-length c = search needs
+
+same-length-2 : tie.Need-same-length-2
+same-length-2 c = search needs
+
+same-length-3 : tie.Need-same-length-3
+same-length-3 c = search needs
+
+returns-5 : tie.Need-returns-5
+returns-5 c =
+    let w = c .before .before .before .before .before .before .walk-rules in
+    let b = c .before .before .before .before .before .before .before .before .before .before .before .before .before in
+    let p = b .before in
+    let lists = w .last .1 .1 .1 .1 .1 .1 .1 .1 .1 .1 .1 .1 in
+    ran-at (given-idle p) (passed (past-nine p)) (idle p ∙ b .if4 .left)
+    (w .result) (lists .0) (lists .1 .0) (lists .1 .1 .0) (w .ensures)
+
+pub run-phase-spec : {M : Type 1} → statement M
+run-phase-spec =
+    tie.close
+    (tie.spec
+    first-refusal-requires
+    as-lent-requires
+    returns
+    sub-digest
+    part-codes-start
+    part-codes-end
+    digest-requires
+    sub-too-many-ranges
+    part-too-many-ranges-start
+    part-too-many-ranges-end
+    too-many-ranges-requires
+    as-lent-requires-2
+    returns-2
+    sub-too-many-targets
+    part-too-many-targets-start
+    part-too-many-targets-end
+    too-many-targets-requires
+    as-lent-requires-3
+    returns-3
+    is-stopped-requires
+    mode-numbered-requires
+    mode-under-requires
+    is-idle-requires
+    as-lent-requires-4
+    returns-4
+    sub-walk-rules
+    part-walk-rules-start
+    part-walk-rules-end
+    walk-rules-requires
+    same-length
+    same-length-2
+    same-length-3
+    returns-5)
