@@ -2,6 +2,8 @@
 use control::Controls;
 use control::Settings;
 use intervention::Ending;
+use phase::Phase;
+use phase::Transaction;
 use reading::OptionIntervention;
 use reading::RuleEngineMode;
 use reading::Verdict;
@@ -17,26 +19,8 @@ ghost use Rattle.reading.specs.Lists.{over};
 ghost use Rattle.reading.specs.Numbers.{modeNumbered, verdictNumber};
 ghost use Rattle.reading.specs.Controls.{isOff, modeOr};
 ghost use Rattle.reading.specs.Walk.{isStopped};
-ghost use Rattle.transaction.specs.Phase.{callOf, Ran};
-ghost use Rattle.transaction.specs.Walked.{fresh, isGoing, isErrs, isAllows, endedBy, Ready, Walked};
-
-// A transaction: the controls, the allowed flag, an intervention or none, and how many matched ids and data entries are in use.
-pub struct Transaction {
-    pub controls: Controls,
-    pub allowed: bool,
-    pub intervention: OptionIntervention,
-    pub ids: usize,
-    pub entries: usize,
-}
-
-// What a phase call answers: 0, 10, or the number of a refusal; the index of the rule that had the error, with 10; how many
-// entries the journal holds; and the transaction after the call.
-pub struct Phase {
-    pub answer: u64,
-    pub error: u64,
-    pub visits: usize,
-    pub transaction: Transaction,
-}
+ghost use Rattle.phase.specs.Phase.{callOf, Ran};
+ghost use Rattle.phase.specs.Walked.{fresh, isGoing, isErrs, isAllows, endedBy, Ready, Walked};
 
 // The mode of a number; refusal 1 turns every number above 2 away.
 fn mode_numbered(mode: u64) -> RuleEngineMode

@@ -16,12 +16,12 @@ use Rattle.control.specs.Held.{controlsOf, Became}
 use Rattle.intervention.specs.Ends.{endBy}
 use Rattle.members.specs.Given.{Rest}
 use Rattle.ruleset.proofs.RecordLaws.{length-rules}
-use Rattle.transaction.specs.declared.Transaction.{Transaction}
-use Rattle.transaction.specs.Phase.{callOf}
-use Rattle.transaction.specs.Walked.{fresh, isGoing, Ready}
-use Rattle.transaction.proofs.Found.{found-law, mode-law}
-use Rattle.transaction.proofs.Progress.{Sofar, sofar-none, sofar-end, few-ranges, journal-same, ids-same, entries-same}
-use Rattle.transaction.proofs.Turn.{journal-start, journal-next, journal-free, ids-start, entries-start, part-start, part-end, listed-room, written-room, journal-kept, ids-kept, entries-kept, next-more, changed-yes, changed-no, sofar-last, sofar-more}
+use Rattle.phase.specs.declared.Transaction.{Transaction}
+use Rattle.phase.specs.Phase.{callOf}
+use Rattle.phase.specs.Walked.{fresh, isGoing, Ready}
+use Rattle.phase.proofs.Found.{found-law, mode-law}
+use Rattle.phase.proofs.Progress.{Sofar, sofar-none, sofar-end, few-ranges, journal-same, ids-same, entries-same}
+use Rattle.phase.proofs.Turn.{journal-start, journal-next, journal-free, ids-start, entries-start, part-start, part-end, listed-room, written-room, journal-kept, ids-kept, entries-kept, next-more, changed-yes, changed-no, sofar-last, sofar-more}
 use Rattle.transaction.proofs.walk_rules.Statement.{statement}
 use Rattle.transaction.proofs.walk_rules.Tie as tie
 

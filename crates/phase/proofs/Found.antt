@@ -27,7 +27,7 @@ use Rattle.members.proofs.MatchedLaws.{matched-append}
 use Rattle.visit.specs.declared.Visited.{Visited}
 use Rattle.visit.specs.declared.State as code
 use Rattle.visit.specs.Found.{entryBy, foundBy, foundAt}
-use Rattle.transaction.proofs.Turns.{true-false}
+use Rattle.phase.proofs.Turns.{true-false}
 
 false-true : false ≡ true → ⊥
 false-true e = true-false (sym e)

@@ -15,8 +15,8 @@ use Rattle.control.specs.declared.Controls.{Controls}
 use Rattle.control.specs.Held.{controlsOf, Became}
 use Rattle.digest.specs.Codes.{codesOf}
 use Rattle.intervention.specs.declared.Ending.{Ending}
-use Rattle.transaction.specs.declared.Transaction.{Transaction}
-use Rattle.transaction.specs.declared.Phase.{Phase}
+use Rattle.phase.specs.declared.Transaction.{Transaction}
+use Rattle.phase.specs.declared.Phase.{Phase}
 
 -- a transaction without allow and intervention
 abbrev pub fresh : Controls → ℕ → ℕ → Transaction

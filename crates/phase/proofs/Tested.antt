@@ -22,13 +22,13 @@ use Rattle.digest.specs.Codes.{codesOf, rangesCoded, targetsCoded, ruleWeight}
 use Rattle.digest.proofs.Refused.{refused8-first, refused9-first, codes-fit, codes-front}
 use Rattle.refusals.specs.declared.Sizes.{Sizes}
 use Rattle.refusals.specs.Lent.{Lent, firstOfSeven}
-use Rattle.transaction.specs.declared.Transaction.{Transaction}
-use Rattle.transaction.specs.declared.Phase.{Phase}
-use Rattle.transaction.specs.Phase.{callOf, Ran}
-use Rattle.transaction.specs.Walked.{fresh, Ready, Walked}
-use Rattle.transaction.proofs.Promise.{few-of-seven, seven-first, refused-8, refused-9, ran-refused, ran-idle}
-use Rattle.transaction.proofs.Promise.{busy, fresh-is, ready-of, ran-walked}
-use Rattle.transaction.proofs.Promise.{length-data-list, length-journal-list}
+use Rattle.phase.specs.declared.Transaction.{Transaction}
+use Rattle.phase.specs.declared.Phase.{Phase}
+use Rattle.phase.specs.Phase.{callOf, Ran}
+use Rattle.phase.specs.Walked.{fresh, Ready, Walked}
+use Rattle.phase.proofs.Promise.{few-of-seven, seven-first, refused-8, refused-9, ran-refused, ran-idle}
+use Rattle.phase.proofs.Promise.{busy, fresh-is, ready-of, ran-walked}
+use Rattle.phase.proofs.Promise.{length-data-list, length-journal-list}
 
 -- what a call is given, in the code's form
 pub record Given : Type 0 where

@@ -40,13 +40,13 @@ use Rattle.unit.specs.declared.Closed.{Closed}
 use Rattle.unit.specs.Closed.{Wrote}
 use Rattle.intervention.specs.declared.Ending.{Ending}
 use Rattle.intervention.specs.Ends.{endBy, stoppedBy}
-use Rattle.transaction.specs.declared.Transaction.{Transaction}
-use Rattle.transaction.specs.Walked.{visitsFrom, Ready, isGoing, isErrs, isAllows, endedBy, Walked}
-use Rattle.transaction.proofs.Turns.{walk-step, walk-off, walk-clip, journal-more, ids-append, data-append, controls-append, length-journal, going-more, answer-after, error-after, allowed-after, intervention-after, visit-grows, kept-grows, walk-grows, true-false}
-use Rattle.transaction.proofs.Parts.{free-length, put-in}
-use Rattle.transaction.proofs.Found.{entry-is, closed-is, controls-is, next-is, first-is, closes-matched, members-are}
-use Rattle.transaction.proofs.Ends.{kindOf, last-kind, error-kind, allow-kind, ending-is, stopping-is}
-use Rattle.transaction.proofs.Progress.{Written, Sofar, finished, journal-done, journal-inside, journal-length, ids-done, ids-inside, ids-length, entries-done, entries-inside, entries-length}
+use Rattle.phase.specs.declared.Transaction.{Transaction}
+use Rattle.phase.specs.Walked.{visitsFrom, Ready, isGoing, isErrs, isAllows, endedBy, Walked}
+use Rattle.phase.proofs.Turns.{walk-step, walk-off, walk-clip, journal-more, ids-append, data-append, controls-append, length-journal, going-more, answer-after, error-after, allowed-after, intervention-after, visit-grows, kept-grows, walk-grows, true-false}
+use Rattle.phase.proofs.Parts.{free-length, put-in}
+use Rattle.phase.proofs.Found.{entry-is, closed-is, controls-is, next-is, first-is, closes-matched, members-are}
+use Rattle.phase.proofs.Ends.{kindOf, last-kind, error-kind, allow-kind, ending-is, stopping-is}
+use Rattle.phase.proofs.Progress.{Written, Sofar, finished, journal-done, journal-inside, journal-length, ids-done, ids-inside, ids-length, entries-done, entries-inside, entries-length}
 
 -- what a unit gives, if a visit closes it; `part` are the matched entries that the code looks at
 new-of : {A : Type 0} (give : List ℕ → List A) (closes : Bool) (part unit : List ℕ) (closed : List (List ℕ)) → closed ≡ keep closes (unit ∷ [])

@@ -12,8 +12,8 @@ use Rattle.reading.specs.Walk.{journalOf, dataOf}
 use Rattle.reading.specs.Outcome.{Outcome, visitsOf, outcomeOf, atFreeEnd}
 use Rattle.reading.specs.Demand3.{Demand3}
 use Rattle.control.specs.Held.{controlsOf, Became}
-use Rattle.transaction.specs.declared.Transaction.{Transaction}
-use Rattle.transaction.specs.declared.Phase.{Phase}
+use Rattle.phase.specs.declared.Transaction.{Transaction}
+use Rattle.phase.specs.declared.Phase.{Phase}
 
 -- the transaction that a struct holds
 abbrev pub transactionOf : Transaction → reading.Transaction

@@ -19,9 +19,9 @@ use Rattle.visit.specs.declared.State as code
 use Rattle.visit.specs.Found.{entryBy, foundAt}
 use Rattle.intervention.specs.declared.Ending.{Ending}
 use Rattle.intervention.specs.Ends.{endBy, stoppedBy}
-use Rattle.transaction.specs.Walked.{isGoing, isErrs, isAllows}
-use Rattle.transaction.proofs.Turns.{true-false}
-use Rattle.transaction.proofs.Found.{byCode, code-is, visit-is, visitOf, unitOf, stateOf}
+use Rattle.phase.specs.Walked.{isGoing, isErrs, isAllows}
+use Rattle.phase.proofs.Turns.{true-false}
+use Rattle.phase.proofs.Found.{byCode, code-is, visit-is, visitOf, unitOf, stateOf}
 
 -- the code's ending of a definition's
 abbrev pub kindOf : reading.Ending → Ending

@@ -27,10 +27,10 @@ use Rattle.members.proofs.WordLaws.{journal-over, data-free-end}
 use Rattle.control.specs.Held.{controlsOf, Became}
 use Rattle.digest.specs.Codes.{codesOf}
 use Rattle.refusals.specs.Lent.{firstOfSeven}
-use Rattle.transaction.specs.declared.Transaction.{Transaction}
-use Rattle.transaction.specs.declared.Phase.{Phase}
-use Rattle.transaction.specs.Phase.{callOf, outcomeFound, Ran}
-use Rattle.transaction.specs.Walked.{fresh, visitsFrom, Ready, Walked}
+use Rattle.phase.specs.declared.Transaction.{Transaction}
+use Rattle.phase.specs.declared.Phase.{Phase}
+use Rattle.phase.specs.Phase.{callOf, outcomeFound, Ran}
+use Rattle.phase.specs.Walked.{fresh, visitsFrom, Ready, Walked}
 
 -- THE FIRST REFUSAL, BY ITS PARTS
 

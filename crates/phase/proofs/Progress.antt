@@ -40,13 +40,13 @@ use Rattle.unit.specs.declared.Closed.{Closed}
 use Rattle.unit.specs.Closed.{Wrote}
 use Rattle.intervention.specs.declared.Ending.{Ending}
 use Rattle.intervention.specs.Ends.{endBy, stoppedBy}
-use Rattle.transaction.specs.declared.Transaction.{Transaction}
-use Rattle.transaction.specs.declared.Phase.{Phase}
-use Rattle.transaction.specs.Walked.{visitsFrom, Ready, isGoing, isErrs, isAllows, endedBy, Walked}
-use Rattle.transaction.proofs.Turns.{walk-step, walk-end, walk-off, walk-clip, journal-more, ids-append, data-append, controls-append, length-journal, Going, going-more, answer-after, error-after, allowed-after, intervention-after, visit-grows, kept-grows, walk-grows, true-false}
-use Rattle.transaction.proofs.Parts.{put-part, lent-is, lent-length, whole-length}
-use Rattle.transaction.proofs.Found.{entry-is, closed-is, controls-is, next-is, first-is, closes-matched, members-are}
-use Rattle.transaction.proofs.Ends.{kindOf, last-kind, error-kind, allow-kind, ending-is, stopping-is}
+use Rattle.phase.specs.declared.Transaction.{Transaction}
+use Rattle.phase.specs.declared.Phase.{Phase}
+use Rattle.phase.specs.Walked.{visitsFrom, Ready, isGoing, isErrs, isAllows, endedBy, Walked}
+use Rattle.phase.proofs.Turns.{walk-step, walk-end, walk-off, walk-clip, journal-more, ids-append, data-append, controls-append, length-journal, Going, going-more, answer-after, error-after, allowed-after, intervention-after, visit-grows, kept-grows, walk-grows, true-false}
+use Rattle.phase.proofs.Parts.{put-part, lent-is, lent-length, whole-length}
+use Rattle.phase.proofs.Found.{entry-is, closed-is, controls-is, next-is, first-is, closes-matched, members-are}
+use Rattle.phase.proofs.Ends.{kindOf, last-kind, error-kind, allow-kind, ending-is, stopping-is}
 
 -- what the three lists hold after the visits `done`
 pub record Written (q : Call) (t : Transaction) (ids₀ entries₀ journal₀ : List ℕ) (done : List Visit) (ids entries journal : List ℕ)
