@@ -1,10 +1,10 @@
 // The phase call in a loop, for host/phase-speed. The contracts say nothing: what a call gives is proved in crates/transaction,
 // and here is proved that the loop is safe and ends.
 use control::Controls;
+use phase::Phase;
+use phase::Transaction;
 use reading::OptionIntervention;
 use reading::RuleIdRange;
-use transaction::Phase;
-use transaction::Transaction;
 
 // The answers and the numbers of visits, each summed over all calls, so that every call counts.
 #[repr(C)]

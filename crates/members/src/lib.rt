@@ -10,7 +10,7 @@ pub fn starter_of(entries: &[u64]) -> u64
     let n = entries.len() / 2;
     let mut k = 0;
     while k < n {
-        if entries[2 * k + 1] == 1 {
+        if entries[2 * k + 1] == 1 { // the first that is matched
             return entries[2 * k];
         }
         k += 1;
@@ -25,7 +25,7 @@ pub fn closer_of(entries: &[u64]) -> u64
     let mut k = entries.len() / 2;
     while 0 < k {
         k -= 1;
-        if entries[2 * k + 1] == 1 {
+        if entries[2 * k + 1] == 1 { // the last that is matched
             return entries[2 * k];
         }
     }

@@ -2,13 +2,15 @@
 use control::Controls;
 use control::Settings;
 use intervention::Ending;
+use phase::Phase;
+use phase::Transaction;
 use reading::OptionIntervention;
 use reading::RuleEngineMode;
 use reading::Verdict;
 use refusals::Sizes;
 use visit::State;
 ghost use mathlib.Core.Path.{_≡_};
-ghost use mathlib.Core.Bool.{_||_, not};
+ghost use mathlib.Core.Bool.{_||_, not, cond};
 ghost use Prim.Native.Nat.{_≤_};
 ghost use mathlib.Core.List.{[], _∷_};
 ghost use lib.Dec.{eqb};
@@ -17,26 +19,8 @@ ghost use Rattle.reading.specs.Lists.{over};
 ghost use Rattle.reading.specs.Numbers.{modeNumbered, verdictNumber};
 ghost use Rattle.reading.specs.Controls.{isOff, modeOr};
 ghost use Rattle.reading.specs.Walk.{isStopped};
-ghost use Rattle.transaction.specs.Phase.{callOf, Ran};
-ghost use Rattle.transaction.specs.Walked.{fresh, isGoing, endedBy, Ready, Walked};
-
-// A transaction: the controls, the allowed flag, an intervention or none, and how many matched ids and data entries are in use.
-pub struct Transaction {
-    pub controls: Controls,
-    pub allowed: bool,
-    pub intervention: OptionIntervention,
-    pub ids: usize,
-    pub entries: usize,
-}
-
-// What a phase call answers: 0, 10, or the number of a refusal; the index of the rule that had the error, with 10; how many
-// entries the journal holds; and the transaction after the call.
-pub struct Phase {
-    pub answer: u64,
-    pub error: u64,
-    pub visits: usize,
-    pub transaction: Transaction,
-}
+ghost use Rattle.phase.specs.Phase.{callOf, Ran};
+ghost use Rattle.phase.specs.Walked.{fresh, isGoing, isErrs, isAllows, endedBy, Ready, Walked};
 
 // The mode of a number; refusal 1 turns every number above 2 away.
 fn mode_numbered(mode: u64) -> RuleEngineMode
@@ -80,6 +64,41 @@ fn put_visit(index: usize, found: Verdict, journal: &mut [u64])
     journal[1] = visit::verdict_number(found);
 }
 
+// 10 after an error, else 0.
+fn answer_of(ending: Ending) -> u64
+    ensures { λ r. ⌜ r ≡ cond (isErrs ending) 10 0 ⌝ }
+{
+    match ending {
+        Ending::GoesOn => 0,
+        Ending::Allows => 0,
+        Ending::Errs => 10,
+        Ending::Stops => 0,
+    }
+}
+
+// The index of the rule that had an error, else 0.
+fn error_of(ending: Ending, last: usize) -> u64
+    ensures { λ r. ⌜ r ≡ cond (isErrs ending) last 0 ⌝ }
+{
+    match ending {
+        Ending::GoesOn => 0,
+        Ending::Allows => 0,
+        Ending::Errs => last as u64,
+        Ending::Stops => 0,
+    }
+}
+
+fn gives_allow(ending: Ending) -> bool
+    ensures { λ r. ⌜ r ≡ isAllows ending ⌝ }
+{
+    match ending {
+        Ending::GoesOn => false,
+        Ending::Allows => true,
+        Ending::Errs => false,
+        Ending::Stops => false,
+    }
+}
+
 // The answer of a walk that ended so at the rule `last`. The transaction had no allow and no intervention.
 fn ended(
     ending: Ending,
@@ -92,11 +111,20 @@ fn ended(
 ) -> Phase
     ensures { λ r. ⌜ r ≡ endedBy ending last visits ids entries stop controls ⌝ }
 {
-    match ending {
-        Ending::GoesOn => Phase { answer: 0, error: 0, visits, transaction: Transaction { controls, allowed: false, intervention: stop, ids, entries } },
-        Ending::Allows => Phase { answer: 0, error: 0, visits, transaction: Transaction { controls, allowed: true, intervention: stop, ids, entries } },
-        Ending::Errs => Phase { answer: 10, error: last as u64, visits, transaction: Transaction { controls, allowed: false, intervention: stop, ids, entries } },
-        Ending::Stops => Phase { answer: 0, error: 0, visits, transaction: Transaction { controls, allowed: false, intervention: stop, ids, entries } },
+    let answer = answer_of(ending);
+    let error = error_of(ending, last);
+    let allowed = gives_allow(ending);
+    Phase {
+        answer,
+        error,
+        visits,
+        transaction: Transaction {
+            controls,
+            allowed,
+            intervention: stop,
+            ids,
+            entries,
+        },
     }
 }
 
@@ -261,7 +289,14 @@ pub fn run_phase(
         journal: journal.len() / 2,
     };
     let refusal = refusals::first_refusal(
-        phase, mode, rules, actions, markers, text, outcomes, sizes,
+        phase,
+        mode,
+        rules,
+        actions,
+        markers,
+        text,
+        outcomes,
+        sizes,
     );
     if refusal != 0 {
         return as_lent(refusal, t);
@@ -270,10 +305,10 @@ pub fn run_phase(
     digest::digest(actions, text, &mut codes[0..]);
     let used = actions.len() / 6;
     if digest::too_many_ranges(rules, &codes[0..used], ranges) {
-        return as_lent(8, t);
+        return as_lent(8, t); // ranges
     }
     if digest::too_many_targets(rules, &codes[0..used], targets) {
-        return as_lent(9, t);
+        return as_lent(9, t); // targets
     }
     let settings = t.controls.settings;
     let held = t.intervention;
@@ -287,6 +322,20 @@ pub fn run_phase(
     }
     let c = t.controls;
     walk_rules(
-        c, t.ids, t.entries, phase, mode, status, rules, actions, markers, text, outcomes, &codes[0..4096], ids, entries, journal,
+        c,
+        t.ids,
+        t.entries,
+        phase,
+        mode,
+        status,
+        rules,
+        actions,
+        markers,
+        text,
+        outcomes,
+        &codes[0..4096],
+        ids,
+        entries,
+        journal,
     )
 }

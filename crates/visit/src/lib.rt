@@ -137,7 +137,7 @@ pub fn visit(rules: &[u64], at: State, visits: usize, found: Verdict) -> Visited
     match found {
         // a missed rule breaks an open chain and passes the rest of its own
         Verdict::Missed => {
-            return passing(found, ruleset::after_chain(rules, next), false, first);
+            return passing(found, ruleset::after_chain(rules, next), false, first); // with its rest
         }
         Verdict::Matched => {
             if link == 1 {
@@ -149,7 +149,7 @@ pub fn visit(rules: &[u64], at: State, visits: usize, found: Verdict) -> Visited
             if link == 1 {
                 return passing(found, ruleset::after_chain(rules, next), false, first);
             }
-            return passing(found, behind, chained, first);
+            return passing(found, behind, chained, first); // the chain stays open
         }
         Verdict::Error => {
             return passing(found, behind, chained, first);

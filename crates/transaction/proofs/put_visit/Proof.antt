@@ -4,7 +4,7 @@ use Prim.Native.Nat.{ℕ}
 use mathlib.Core.List.{[], _∷_}
 use denote.Ref.{now}
 use Rattle.reading.specs.Lists.{over}
-use Rattle.transaction.proofs.Parts.{put-two}
+use Rattle.phase.proofs.Parts.{put-two}
 use borrow.Author.Needs.{needs}
 use borrow.Author.Needs.{needs}
 use Rattle.transaction.proofs.put_visit.Statement.{statement}

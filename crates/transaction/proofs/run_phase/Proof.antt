@@ -14,9 +14,9 @@ use Rattle.reading.specs.Refusals.{refusalOf, refused8, refused9}
 use Rattle.actions.proofs.RecordLaws.{length-actions}
 use Rattle.digest.specs.Codes.{codesOf}
 use Rattle.refusals.specs.Lent.{firstOfSeven}
-use Rattle.transaction.proofs.Promise.{few-of-seven, accepted}
-use Rattle.transaction.proofs.Tested.{Given, callAt, lent-is, idle-is, digested, eighth, ninth}
-use Rattle.transaction.proofs.Tested.{ran-first, ran-eighth, ran-ninth, ran-nothing, ready-at, ran-at}
+use Rattle.phase.proofs.Promise.{few-of-seven, accepted}
+use Rattle.phase.proofs.Tested.{Given, callAt, lent-is, idle-is, digested, eighth, ninth}
+use Rattle.phase.proofs.Tested.{ran-first, ran-eighth, ran-ninth, ran-nothing, ready-at, ran-at}
 use borrow.Author.Needs.{needs}
 use Rattle.transaction.proofs.run_phase.Statement.{statement}
 use Rattle.transaction.proofs.run_phase.Tie as tie

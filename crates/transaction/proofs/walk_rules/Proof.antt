@@ -16,12 +16,12 @@ use Rattle.control.specs.Held.{controlsOf, Became}
 use Rattle.intervention.specs.Ends.{endBy}
 use Rattle.members.specs.Given.{Rest}
 use Rattle.ruleset.proofs.RecordLaws.{length-rules}
-use Rattle.transaction.specs.declared.Transaction.{Transaction}
-use Rattle.transaction.specs.Phase.{callOf}
-use Rattle.transaction.specs.Walked.{fresh, isGoing, Ready}
-use Rattle.transaction.proofs.Found.{found-law, mode-law}
-use Rattle.transaction.proofs.Progress.{Sofar, sofar-none, sofar-end, few-ranges, journal-same, ids-same, entries-same}
-use Rattle.transaction.proofs.Turn.{journal-start, journal-next, journal-free, ids-start, entries-start, part-start, part-end, listed-room, written-room, journal-kept, ids-kept, entries-kept, next-more, changed-yes, changed-no, sofar-last, sofar-more}
+use Rattle.phase.specs.declared.Transaction.{Transaction}
+use Rattle.phase.specs.Phase.{callOf}
+use Rattle.phase.specs.Walked.{fresh, isGoing, Ready}
+use Rattle.phase.proofs.Found.{found-law, mode-law}
+use Rattle.phase.proofs.Progress.{Sofar, sofar-none, sofar-end, few-ranges, journal-same, ids-same, entries-same}
+use Rattle.phase.proofs.Turn.{journal-start, journal-next, journal-free, ids-start, entries-start, part-start, part-end, listed-room, written-room, journal-kept, ids-kept, entries-kept, next-more, changed-yes, changed-no, sofar-last, sofar-more}
 use Rattle.transaction.proofs.walk_rules.Statement.{statement}
 use Rattle.transaction.proofs.walk_rules.Tie as tie
 
@@ -179,25 +179,33 @@ unit-small c =
 -- what is in use after the turn
 listed-small : (c : tie.After-close-unit Inv-loop μ-loop) → head ((visited ((recorded c)))) .loop .listed + c .close-unit .result .ids < 2 ^ 64
 listed-small c =
-    omega (arith, listed-room (Q (head ((visited ((recorded c)))))) (T (head ((visited ((recorded c)))))) (now (entered ((head ((visited ((recorded c)))))) .args .codes)) (now (entered ((head ((visited ((recorded c)))))) .args .ids)) (now (entered ((head ((visited ((recorded c)))))) .args .entries)) (now (entered ((head ((visited ((recorded c)))))) .args .journal))
-    (ready (head ((visited ((recorded c)))))) refl
-    (head ((visited ((recorded c)))) .loop .ids) (head ((visited ((recorded c)))) .loop .entries) (head ((visited ((recorded c)))) .loop .journal) (head ((visited ((recorded c)))) .loop .c) (head ((visited ((recorded c)))) .loop .s) (head ((visited ((recorded c)))) .loop .visits)
-    (head ((visited ((recorded c)))) .loop .listed) (head ((visited ((recorded c)))) .loop .written) (head ((visited ((recorded c)))) .loop .inv) (inside ((visited ((recorded c))) .before .before .before .before .before))
-    ((visited ((recorded c))) .before .verdict-at .result) (found-is ((visited ((recorded c))) .before)) (visited ((recorded c)) .visit .result) (visited ((recorded c)) .visit .ensures)
-    (recorded c .put-visit .last .1 .1 .0) (recorded c .put-visit .ensures)
-    (c .close-unit .result) (c .close-unit .last .1 .1 .1 .1 .1 .1 .1 .1 .1 .0) (c .close-unit .last .1 .1 .1 .1 .1 .1 .1 .1 .1 .1 .0)
-    (c .close-unit .ensures (restOf (Q (head ((visited ((recorded c)))))))), (entered ((head ((visited ((recorded c)))))) .good .1 .1 .1 .1 .1 .1 .1 .1 .1 .1 .1 .1 .0 .1))
+    omega (
+      arith,
+      listed-room (Q (head ((visited ((recorded c)))))) (T (head ((visited ((recorded c)))))) (now (entered ((head ((visited ((recorded c)))))) .args .codes)) (now (entered ((head ((visited ((recorded c)))))) .args .ids)) (now (entered ((head ((visited ((recorded c)))))) .args .entries)) (now (entered ((head ((visited ((recorded c)))))) .args .journal))
+          (ready (head ((visited ((recorded c)))))) refl
+          (head ((visited ((recorded c)))) .loop .ids) (head ((visited ((recorded c)))) .loop .entries) (head ((visited ((recorded c)))) .loop .journal) (head ((visited ((recorded c)))) .loop .c) (head ((visited ((recorded c)))) .loop .s) (head ((visited ((recorded c)))) .loop .visits)
+          (head ((visited ((recorded c)))) .loop .listed) (head ((visited ((recorded c)))) .loop .written) (head ((visited ((recorded c)))) .loop .inv) (inside ((visited ((recorded c))) .before .before .before .before .before))
+          ((visited ((recorded c))) .before .verdict-at .result) (found-is ((visited ((recorded c))) .before)) (visited ((recorded c)) .visit .result) (visited ((recorded c)) .visit .ensures)
+          (recorded c .put-visit .last .1 .1 .0) (recorded c .put-visit .ensures)
+          (c .close-unit .result) (c .close-unit .last .1 .1 .1 .1 .1 .1 .1 .1 .1 .0) (c .close-unit .last .1 .1 .1 .1 .1 .1 .1 .1 .1 .1 .0)
+          (c .close-unit .ensures (restOf (Q (head ((visited ((recorded c)))))))),
+      (entered ((head ((visited ((recorded c)))))) .good .1 .1 .1 .1 .1 .1 .1 .1 .1 .1 .1 .1 .0 .1),
+    )
 
 written-small : (c : tie.After-close-unit Inv-loop μ-loop) → head ((visited ((recorded c)))) .loop .written + c .close-unit .result .entries < 2 ^ 64
 written-small c =
-    omega (arith, written-room (Q (head ((visited ((recorded c)))))) (T (head ((visited ((recorded c)))))) (now (entered ((head ((visited ((recorded c)))))) .args .codes)) (now (entered ((head ((visited ((recorded c)))))) .args .ids)) (now (entered ((head ((visited ((recorded c)))))) .args .entries)) (now (entered ((head ((visited ((recorded c)))))) .args .journal))
-    (ready (head ((visited ((recorded c)))))) refl
-    (head ((visited ((recorded c)))) .loop .ids) (head ((visited ((recorded c)))) .loop .entries) (head ((visited ((recorded c)))) .loop .journal) (head ((visited ((recorded c)))) .loop .c) (head ((visited ((recorded c)))) .loop .s) (head ((visited ((recorded c)))) .loop .visits)
-    (head ((visited ((recorded c)))) .loop .listed) (head ((visited ((recorded c)))) .loop .written) (head ((visited ((recorded c)))) .loop .inv) (inside ((visited ((recorded c))) .before .before .before .before .before))
-    ((visited ((recorded c))) .before .verdict-at .result) (found-is ((visited ((recorded c))) .before)) (visited ((recorded c)) .visit .result) (visited ((recorded c)) .visit .ensures)
-    (recorded c .put-visit .last .1 .1 .0) (recorded c .put-visit .ensures)
-    (c .close-unit .result) (c .close-unit .last .1 .1 .1 .1 .1 .1 .1 .1 .1 .0) (c .close-unit .last .1 .1 .1 .1 .1 .1 .1 .1 .1 .1 .0)
-    (c .close-unit .ensures (restOf (Q (head ((visited ((recorded c)))))))), (entered ((head ((visited ((recorded c)))))) .good .1 .1 .1 .1 .1 .1 .1 .1 .1 .1 .1 .1 .1 .0 .1))
+    omega (
+      arith,
+      written-room (Q (head ((visited ((recorded c)))))) (T (head ((visited ((recorded c)))))) (now (entered ((head ((visited ((recorded c)))))) .args .codes)) (now (entered ((head ((visited ((recorded c)))))) .args .ids)) (now (entered ((head ((visited ((recorded c)))))) .args .entries)) (now (entered ((head ((visited ((recorded c)))))) .args .journal))
+          (ready (head ((visited ((recorded c)))))) refl
+          (head ((visited ((recorded c)))) .loop .ids) (head ((visited ((recorded c)))) .loop .entries) (head ((visited ((recorded c)))) .loop .journal) (head ((visited ((recorded c)))) .loop .c) (head ((visited ((recorded c)))) .loop .s) (head ((visited ((recorded c)))) .loop .visits)
+          (head ((visited ((recorded c)))) .loop .listed) (head ((visited ((recorded c)))) .loop .written) (head ((visited ((recorded c)))) .loop .inv) (inside ((visited ((recorded c))) .before .before .before .before .before))
+          ((visited ((recorded c))) .before .verdict-at .result) (found-is ((visited ((recorded c))) .before)) (visited ((recorded c)) .visit .result) (visited ((recorded c)) .visit .ensures)
+          (recorded c .put-visit .last .1 .1 .0) (recorded c .put-visit .ensures)
+          (c .close-unit .result) (c .close-unit .last .1 .1 .1 .1 .1 .1 .1 .1 .1 .0) (c .close-unit .last .1 .1 .1 .1 .1 .1 .1 .1 .1 .1 .0)
+          (c .close-unit .ensures (restOf (Q (head ((visited ((recorded c)))))))),
+      (entered ((head ((visited ((recorded c)))))) .good .1 .1 .1 .1 .1 .1 .1 .1 .1 .1 .1 .1 .1 .0 .1),
+    )
 
 goes-on : (c : tie.After-close-unit Inv-loop μ-loop) → head ((visited ((recorded c)))) .loop .s .next < c .close-unit .result .next
 goes-on c =
