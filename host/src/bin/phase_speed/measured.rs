@@ -41,6 +41,11 @@ fn cases() -> Vec<Measured> {
             missed(ranges(BELOW)),
         ),
         of(
+            "512 rules, no match, 256 ranges below and above in turn",
+            15.0,
+            missed(in_turn()),
+        ),
+        of(
             "64 rules, 10 match with ctl",
             10.0,
             case((0..64).map(mixed_rule).collect(), Vec::new()),
@@ -69,6 +74,15 @@ fn case(rules: Vec<Rule>, ranges: Vec<(u64, u64)>) -> Case {
 fn ranges(from: u64) -> Vec<(u64, u64)> {
     (0..256)
         .map(|k| (from + 10 * k, from + 10 * k + k % 4))
+        .collect()
+}
+
+/// 256 ranges, every second of them above all ids.
+fn in_turn() -> Vec<(u64, u64)> {
+    let both = ranges(BELOW).into_iter().zip(ranges(ABOVE));
+    let in_turn = both.enumerate();
+    in_turn
+        .map(|(k, (below, above))| if k % 2 == 0 { below } else { above })
         .collect()
 }
 
