@@ -23,12 +23,25 @@ const ERROR_MACRO: &str = "%{error}";
 /// The rule set of one call, and where its visits will be found.
 pub(crate) fn ruleset(call: &Call, mode: RuleEngineMode) -> (CompiledRuleset, Visits) {
     let visits = Visits::default();
+    let operator = |index| GivenOperator {
+        index,
+        matched: call.rules[index].outcome != Outcome::Missed,
+        visits: visits.clone(),
+    };
     let rules = (0..call.rules.len())
-        .map(|index| compiled_rule(call, index, &visits))
+        .map(|index| compiled_rule(call, index, Arc::new(operator(index))))
         .collect();
+    (ruleset_of(call, rules, mode), visits)
+}
+
+/// The rule set of a call's rules, compiled already, and its markers.
+pub(crate) fn ruleset_of(
+    call: &Call,
+    rules: Vec<CompiledRule>,
+    mode: RuleEngineMode,
+) -> CompiledRuleset {
     let markers = call.markers.iter().map(|m| (m.name.as_str(), m.position));
-    let rules = Rules::of_phase(call.phase, rules, markers);
-    (CompiledRuleset::of_rules(rules, mode), visits)
+    CompiledRuleset::of_rules(Rules::of_phase(call.phase, rules, markers), mode)
 }
 
 /// The index of the rule that ended the phase with this error.
@@ -41,7 +54,12 @@ pub(crate) fn index_of_error(error: &Error) -> usize {
     index.expect("the argument of a rule error carries the rule's index")
 }
 
-fn compiled_rule(call: &Call, index: usize, visits: &Visits) -> CompiledRule {
+/// A rule of a call, with the operator that is to give its outcome.
+pub(crate) fn compiled_rule(
+    call: &Call,
+    index: usize,
+    operator: Arc<dyn Operator>,
+) -> CompiledRule {
     let rule = &call.rules[index];
     // As the published `compile` links a chain's rules.
     let has_next = rule.is_chain && index + 1 < call.rules.len();
@@ -49,11 +67,7 @@ fn compiled_rule(call: &Call, index: usize, visits: &Visits) -> CompiledRule {
         id: rule.id.map(|id| id.to_string()),
         phase: call.phase,
         variables: variables(rule),
-        operator: Arc::new(GivenOperator {
-            index,
-            matched: rule.outcome != Outcome::Missed,
-            visits: visits.clone(),
-        }),
+        operator,
         operator_spec: operator_spec(rule, index),
         operator_negated: false,
         transformations: TransformationPipeline::new(),

@@ -12,10 +12,12 @@ mod result;
 mod run;
 mod targets;
 pub mod text;
+mod timed;
 
 pub use case::{Call, Case, Entry, Marker, Outcome, Rule};
 pub use result::{Answer, CallResult, DataEntry, Stop, Target, Verdict, Visit};
 pub use run::{directive, run_case, Run};
+pub use timed::{Missed, Timed};
 
 /// The published types that cases and results are made of.
 pub use published::engine::control::{CtlDirective, RuleIdRange};

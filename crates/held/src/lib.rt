@@ -4,8 +4,9 @@ use reading::OptionU64;
 use reading::RuleEngineMode;
 ghost use mathlib.Core.Path.{_≡_};
 ghost use mathlib.Core.Bool.{_||_};
-ghost use Prim.Native.Nat.{min};
+ghost use Prim.Native.Nat.{_<_, min};
 ghost use lib.Dec.{ltb};
+ghost use lib.ListN.{getD};
 ghost use Rattle.reading.specs.Controls.{isRemoved, inRange, rangeList, modeOr, mostRanges, mostTargets};
 
 // How many of 256 places are looked at where `count` are said to be in use.
@@ -18,12 +19,14 @@ fn held(count: usize) -> usize
     256
 }
 
-// Both ends of a range are removed.
-fn contains(start: u64, end: u64, id: u64) -> bool
-    ensures { λ r. ⌜ r ≡ inRange id (record { start = start; end = end }) ⌝ }
+// Whether the range at an index holds an id; both its ends are removed. Its end is read only where its start is not above
+// the id, which is cheaper for a loop over many ranges.
+fn contains<'a>(starts: &'a [u64; 256], ends: &'a [u64; 256], i: usize, id: u64) -> bool
+    requires { ⌜ i < 256 ⌝ }
+    ensures { λ r. ⌜ r ≡ inRange id (record { start = getD (now (starts .entry)) i 0; end = getD (now (ends .entry)) i 0 }) ⌝ }
 {
-    if start <= id {
-        return id <= end;
+    if starts[i] <= id {
+        return id <= ends[i];
     }
     false
 }
@@ -44,7 +47,7 @@ pub fn is_removed<'a>(
     let n = held(count);
     let mut i = 0;
     while i < n {
-        if contains(starts[i], ends[i], number) {
+        if contains(starts, ends, i, number) {
             return true;
         }
         i += 1;

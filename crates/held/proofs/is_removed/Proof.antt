@@ -31,24 +31,12 @@ held-requires c κs = search needs
 loop-holds : tie.Need-loop-holds Inv-loop μ-loop
 loop-holds c = search needs
 
-mul-contains : tie.Need-mul-contains Inv-loop μ-loop
-mul-contains c = omega arith
-
-element-copy-out-contains : tie.Need-element-copy-out-contains Inv-loop μ-loop
-element-copy-out-contains c = search needs
-
-mul-contains-2 : tie.Need-mul-contains-2 Inv-loop μ-loop
-mul-contains-2 c = omega arith
-
-element-copy-out-contains-2 : tie.Need-element-copy-out-contains-2 Inv-loop μ-loop
-element-copy-out-contains-2 c = search needs
-
 contains-requires : tie.Need-contains-requires Inv-loop μ-loop
-contains-requires c κs = search needs
+contains-requires c κs = omega arith
 
 returns-2 : tie.Need-returns-2 Inv-loop μ-loop
 returns-2 c =
-    let l = c .before .before .before .before .before in
+    let l = c .before .before .before in
     let k = l .before .before .before in
     let n = min (k .before .before .args .count) 256 in
     removed-by _ _ _ _ (k .id .given .1) n (l .loop .i) _ (omega (arith, l .before .held .ensures))
@@ -62,7 +50,7 @@ loop-less c = omega arith
 
 loop-again : tie.Need-loop-again Inv-loop μ-loop
 loop-again c =
-    let l = c .before .before .before .before .before in
+    let l = c .before .before .before in
     (omega arith, removed-more _ _ _ (l .loop .i) _ (l .loop .inv .1) (c .before .contains .ensures) (c .if1 .left))
 
 returns-3 : tie.Need-returns-3 Inv-loop μ-loop
@@ -82,10 +70,6 @@ is-removed-spec =
     returns
     held-requires
     loop-holds
-    mul-contains
-    element-copy-out-contains
-    mul-contains-2
-    element-copy-out-contains-2
     contains-requires
     returns-2
     add-i

@@ -33,6 +33,16 @@ impl Transaction {
         self.run_phase(phase)
     }
 
+    /// Sets the rule set of later calls.
+    pub fn set_ruleset(&mut self, ruleset: Arc<CompiledRuleset>) {
+        self.ruleset = ruleset;
+    }
+
+    /// Calls the published `run_phase` with the rule set that is there.
+    pub fn run_phase_alone(&mut self, phase: Phase) -> Result<()> {
+        self.run_phase(phase)
+    }
+
     /// The controls.
     pub fn controls(&self) -> &TransactionControls {
         &self.controls
