@@ -1,5 +1,4 @@
 -- Laws on plain lists and numbers, for the proofs of the functions.
-pub mod RecordLaws
 pub mod PlacedLaws
 pub mod SlotLaws
 pub mod MarkLaws

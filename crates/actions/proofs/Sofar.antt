@@ -14,7 +14,7 @@ use Rattle.reading.specs.Records.{actionList}
 use Rattle.actions.specs.declared.RuleActions.{RuleActions}
 use Rattle.actions.specs.Executed.{positionsOf, Executed}
 use Rattle.actions.specs.Slots.{slotOf, placedAt, marked, markedMetadata}
-use Rattle.actions.proofs.RecordLaws.{length-actions, action-is}
+use Rattle.text.proofs.RecordLaws.{length-actions, action-is}
 use Rattle.actions.proofs.PlacedLaws.{upTo, up-to-none, up-to-more, up-to-end, controls-more}
 use Rattle.actions.proofs.MarkLaws.{Marks, marks-none, marks-more, marks-disruptive, marks-flow, marks-metadata}
 use Rattle.actions.proofs.ControlLaws.{fitting, length-fitting, fitting-none, fitting-more}
@@ -25,7 +25,8 @@ pub record Sofar (actions : List Action) (found : List ℕ) (done : List Placed)
   pub count : n ≡ length (controlsIn done)
   pub positions : controls ≡ fitting found (positionsOf (controlsIn done))
 
-pub sofar-none : (actions : List Action) (found : List ℕ) (first : ℕ) → Sofar actions found (upTo actions first first) (replicate 19 0) found 0
+pub sofar-none : (actions : List Action) (found : List ℕ) (first : ℕ) → Sofar actions found (upTo actions first first)
+    (replicate 19 0) found 0
 sofar-none actions found first =
     rw (up-to-none actions first) (record { marks = marks-none actions; count = refl; positions = sym (fitting-none found) })
 

@@ -103,7 +103,8 @@ actions-grown : (q : Call) (ps : List Placed) (c : Controls) → Grown c (action
 actions-grown q [] c = grown-same c
 actions-grown q (p ∷ ps) c =
     let d = applied c (record { phase = q .phase; position = p .position }) (directiveIn (q .text) p) in
-    grown-then c d (actionControls q ps d) (applied-grown c (record { phase = q .phase; position = p .position }) (directiveIn (q .text) p))
+    grown-then c d (actionControls q ps d)
+        (applied-grown c (record { phase = q .phase; position = p .position }) (directiveIn (q .text) p))
     (actions-grown q ps d)
 
 rule-grows : (q : Call) (m : ℕ) (c : Controls) → Grown c (ruleControls q m c)
@@ -113,7 +114,8 @@ rule-grows q m c = actions-grown q (controlsIn (actionsAt q m)) c
 pub grows : (q : Call) (ms : List ℕ) (c : Controls) → Grown c (unitControls q ms c)
 grows q [] c = grown-same c
 grows q (m ∷ ms) c =
-    grown-then c (ruleControls q m c) (unitControls q ms (ruleControls q m c)) (rule-grows q m c) (grows q ms (ruleControls q m c))
+    grown-then c (ruleControls q m c) (unitControls q ms (ruleControls q m c)) (rule-grows q m c)
+        (grows q ms (ruleControls q m c))
 
 -- THE RANGES OF A DIRECTIVE ARE THOSE OF ITS VALUE
 
@@ -272,7 +274,8 @@ take-zeros zero k = refl
 take-zeros (suc n) zero = refl
 take-zeros (suc n) (suc k) = take-zeros n k
 
-drop-padded : (f : Action → ℕ) (l : List Action) (i k : ℕ) → drop i (map f l ++ zeros k) ≡ map f (drop i l) ++ zeros (k - (i - length l))
+drop-padded : (f : Action → ℕ) (l : List Action) (i k : ℕ) → drop i (map f l ++ zeros k) ≡ map f (drop i l) ++ zeros
+    (k - (i - length l))
 drop-padded f l zero k = let z : k - (zero - length l) ≡ k = omega arith in rw z
 drop-padded f [] (suc i) k = let z : suc i - zero ≡ suc i = omega arith in rw z (drop-zeros (suc i) k)
 drop-padded f (x ∷ l) (suc i) k = let z : suc i - suc (length l) ≡ i - length l = omega arith in rw z (drop-padded f l i k)
@@ -306,7 +309,8 @@ module _ (q : Call) where
   abbrev afterAction : ℕ → Action → Controls → Controls
   afterAction i a c = cond (eqb (a .kind) 19) (applied c (place i) (directiveIn (q .text) (placed i a))) c
 
-  action-fits : (i : ℕ) (a : Action) (c : Controls) → length (afterAction i a c .ranges) ≤ 256 → length (afterAction i a c .targets) ≤ 64
+  action-fits : (i : ℕ) (a : Action) (c : Controls) → length (afterAction i a c .ranges) ≤ 256 → length
+      (afterAction i a c .targets) ≤ 64
       → appliedCode (place i) (partOf (q .text) (a .value)) (codeAt (q .text) a) c ≡ afterAction i a c
   unfolding codeAt directiveIn
   action-fits i a c h k = go (eqb (a .kind) 19) h k
@@ -361,7 +365,8 @@ module _ (q : Call) where
 
   module _ (codes : List ℕ) (k : ℕ) (are : codes ≡ over (zeros k) (codesOf (q .text) (q .actions))) where
     padded : codes ≡ codesOf (q .text) (q .actions) ++ zeros (k - length (codesOf (q .text) (q .actions)))
-    padded = are ∙ ap (λ (l : List ℕ). codesOf (q .text) (q .actions) ++ l) (drop-zeros (length (codesOf (q .text) (q .actions))) k)
+    padded = are ∙ ap (λ (l : List ℕ). codesOf (q .text) (q .actions) ++ l)
+        (drop-zeros (length (codesOf (q .text) (q .actions))) k)
 
     rule-fits : (m : ℕ) (c : Controls) → length (ruleControls q m c .ranges) ≤ 256 → length (ruleControls q m c .targets) ≤ 64
         → ruleCoded s codes (getD (q .rules) m noRule) c ≡ ruleControls q m c
@@ -375,7 +380,8 @@ module _ (q : Call) where
         ∙ codes-fit (drop (r .first) (q .actions)) (r .first) (r .count) (size - (r .first - length (q .actions))) c refl hr ht)
 
     -- a unit whose controls stay within the limits
-    pub unit-fits : (ms : List ℕ) (c : Controls) → length (unitControls q ms c .ranges) ≤ 256 → length (unitControls q ms c .targets) ≤ 64
+    pub unit-fits : (ms : List ℕ) (c : Controls) → length (unitControls q ms c .ranges) ≤ 256 → length
+        (unitControls q ms c .targets) ≤ 64
         → unitCoded s codes (q .rules) ms c ≡ unitControls q ms c
     unit-fits [] c hr ht = refl
     unit-fits (m ∷ ms) c hr ht =

@@ -1,4 +1,3 @@
-pub mod RecordLaws
 pub mod StepLaws
 pub mod RuleLaws
 pub mod UnitLaws

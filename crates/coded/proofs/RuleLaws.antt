@@ -43,7 +43,8 @@ codes-are codes r end e =
     ap (λ (n : ℕ). take n l) z ∙ take-min (r .count) l
 
 -- the code at i, and those behind it
-codes-from : (codes : List ℕ) (i end : ℕ) → i < end → end ≤ length codes → slice i end codes ≡ getD codes i 0 ∷ slice (i + 1) end codes
+codes-from : (codes : List ℕ) (i end : ℕ) → i < end → end ≤ length codes → slice i end codes ≡ getD codes i 0 ∷ slice (i + 1) end
+    codes
 codes-from codes i end h k =
     let z : end - i ≡ suc (end - suc i) = omega arith in
     rw (add-one i, z, drop-cons codes i 0 (omega arith))
@@ -59,7 +60,8 @@ pub changes-none : (codes : List ℕ) (r : Rule) (end : ℕ) → end ≡ r .firs
 unfolding ruleChanges
 changes-none codes r end e = ap (any isChange) (codes-are codes r end e)
 
-module _ (codes : List ℕ) (i end : ℕ) (t : Bool) (h : i < end) (k : end ≤ length codes) (is : any isChange (slice i end codes) ≡ t) where
+module _ (codes : List ℕ) (i end : ℕ) (t : Bool) (h : i < end) (k : end ≤ length codes)
+    (is : any isChange (slice i end codes) ≡ t) where
   pub changes-found : (getD codes i 0 ≡ 0 → ⊥) → true ≡ t
   changes-found n =
       let e : any isChange (getD codes i 0 ∷ slice (i + 1) end codes) ≡ t = rw (codes-from codes i end h k) at is in
@@ -88,7 +90,8 @@ unfolding ruleCoded
 rule-grown s codes r x = codes-grown s (r .first) (take (r .count) (drop (r .first) codes)) x
 
 -- the codes up to i gone over: r has what they added to c, and the settings are s. What the others do then is what all do
-pub record Going (source : Source) (codes : List ℕ) (c r : Controls) (s : Settings) (i end : ℕ) (whole : reading.Controls) : Type 0 where
+pub record Going (source : Source) (codes : List ℕ) (c r : Controls) (s : Settings) (i end : ℕ) (whole : reading.Controls) : Type
+    0 where
   pub kept : Became c r (controlsOf r)
   pub rest : appliedCodes source i (slice i end codes) (withSettings (controlsOf r) s) ≡ whole
 
@@ -110,7 +113,8 @@ module _ (source : Source) (codes : List ℕ) (c r : Controls) (s : Settings) (i
       → appliedCodes source (i + 1) (slice (i + 1) end codes) y ≡ whole
   next y e =
       let step : appliedCodes source i (getD codes i 0 ∷ slice (i + 1) end codes) (withSettings (controlsOf r) s) ≡ whole
-      = sym (ap (λ (l : List ℕ). appliedCodes source i l (withSettings (controlsOf r) s)) (codes-from codes i end h k)) ∙ going .rest in
+      = sym (ap (λ (l : List ℕ). appliedCodes source i l (withSettings (controlsOf r) s)) (codes-from codes i end h k)) ∙ going
+          .rest in
       ap (λ (j : ℕ). appliedCodes source j (slice (i + 1) end codes) y) (add-one i)
       ∙ (ap (appliedCodes source (suc i) (slice (i + 1) end codes)) (sym e) ∙ step)
 
@@ -126,13 +130,15 @@ module _ (source : Source) (codes : List ℕ) (c r : Controls) (s : Settings) (i
       })
 
   pub going-added : (added r′ : Controls) (s′ : Settings) → s′ ≡ settingsAfter (getD codes i 0) s → 10 ≤ getD codes i 0
-      → Became r added (addedBy here value (getD codes i 0) (controlsOf r)) → r′ ≡ added → Going source codes c r′ s′ (i + 1) end whole
+      → Became r added (addedBy here value (getD codes i 0) (controlsOf r)) → r′ ≡ added → Going source codes c r′ s′ (i + 1) end
+          whole
   going-added added r′ s′ is l b e =
       let g = added-grown here value (getD codes i 0) (controlsOf r) in
       let both = became-then (going .kept) b (g .ranges) (g .targets) in
       subst (λ (x : Controls). Going source codes c x s′ (i + 1) end whole) (sym e)
       (record {
-        kept = record { meaning = refl; starts = both .starts; ends = both .ends; phases = both .phases; positions = both .positions };
+        kept = record { meaning = refl; starts = both .starts; ends = both .ends; phases = both .phases; positions = both
+            .positions };
         rest = next (withSettings (controlsOf added) s′)
             (coded-added here value (getD codes i 0) (controlsOf r) s l
             ∙ (ap (λ (x : reading.Controls). withSettings x (settingsAfter (getD codes i 0) s)) (sym (b .meaning))
@@ -167,7 +173,8 @@ going-end source codes rule c r s i end h e going =
     let last : withSettings (controlsOf r) s ≡ appliedCodes source (rule .first) (slice (rule .first) end codes) (controlsOf c)
     = rw z at (going .rest) in
     record {
-      meaning = anew r s ∙ (last ∙ ap (λ (l : List ℕ). appliedCodes source (rule .first) l (controlsOf c)) (codes-are codes rule end e));
+      meaning = anew r s ∙ (last ∙ ap (λ (l : List ℕ). appliedCodes source (rule .first) l (controlsOf c))
+          (codes-are codes rule end e));
       starts = going .kept .starts;
       ends = going .kept .ends;
       phases = going .kept .phases;

@@ -107,7 +107,8 @@ module _ (at : Place) (value : List ℕ) (code : ℕ) (x : Controls) (s : Settin
   added-beside h = rw (lt-leb code 9 (omega arith)) (added-under (eqb code 10))
 
   -- a code that adds
-  pub coded-added : 10 ≤ code → appliedCode at value code (withSettings x s) ≡ withSettings (addedBy at value code x) (settingsAfter code s)
+  pub coded-added : 10 ≤ code → appliedCode at value code (withSettings x s) ≡ withSettings (addedBy at value code x)
+      (settingsAfter code s)
   coded-added h = rw (settings-from-ten code s h) (added-beside h)
 
 target-grown : (at : Place) (x : Controls) → Grown x (withTarget x at)
@@ -179,6 +180,7 @@ module _ (c r : held.Controls) (code : ℕ) where
   became-target e at value b = rw (eq-eqb code 10 e) b
 
   pub became-added : (code ≡ 10 → ⊥) → (at : Place) (value : List ℕ)
-      → Became c r (withAllRanges (controlsOf c) (rangesOf (removalValue (trim value)))) → Became c r (addedBy at value code (controlsOf c))
+      → Became c r (withAllRanges (controlsOf c) (rangesOf (removalValue (trim value)))) → Became c r
+          (addedBy at value code (controlsOf c))
   unfolding addedBy
   became-added e at value b = rw (ne-eqb code 10 e) b

@@ -17,7 +17,7 @@ use Rattle.control.specs.declared.Controls.{Controls}
 use Rattle.control.specs.Held.{controlsOf, Became}
 use Rattle.control.proofs.Chained.{became-same, became-then}
 use Rattle.coded.specs.Coded.{Source, ruleCoded, ruleChanges, unitCoded, unitChanges}
-use Rattle.coded.proofs.RecordLaws.{length-journal, entries-from}
+use Rattle.text.proofs.RecordLaws.{length-entries, drop-entries}
 use Rattle.coded.proofs.StepLaws.{Grown, grown-same, grown-then}
 use Rattle.coded.proofs.RuleLaws.{rule-grown}
 
@@ -28,7 +28,7 @@ membersFrom words i = matchedIn (drop i (journalList words))
 module _ (words : List ℕ) (i : ℕ) (h : i < length words / 2) where
   members-from : membersFrom words i
       ≡ keep (eqb (getD words (2 * i + 1) 0) 1) (getD words (2 * i) 0 ∷ []) ++ membersFrom words (i + 1)
-  members-from = rw (add-one i) (ap matchedIn (entries-from words i h))
+  members-from = rw (add-one i) (ap matchedIn (drop-entries words i h))
 
   pub member-here : getD words (2 * i + 1) 0 ≡ 1 → membersFrom words i ≡ getD words (2 * i) 0 ∷ membersFrom words (i + 1)
   member-here e =
@@ -42,7 +42,7 @@ module _ (words : List ℕ) (i : ℕ) (h : i < length words / 2) where
 
 pub members-end : (words : List ℕ) (i : ℕ) → length words / 2 ≤ i → membersFrom words i ≡ []
 members-end words i h =
-    let l : length (journalList words) ≤ i = omega (arith, length-journal words) in
+    let l : length (journalList words) ≤ i = omega (arith, length-entries words) in
     ap matchedIn (drop-of-length-le (journalList words) l)
 
 -- WHETHER A UNIT CHANGES THE CONTROLS
@@ -57,7 +57,8 @@ module _ (codes : List ℕ) (rules : List Rule) (words : List ℕ) (i : ℕ) (t 
       ∙ (sym (ap (unitChanges codes rules) (members-from words i h)) ∙ is))
     where
       go : (v : Bool)
-          → ((v && ruleChanges codes (getD rules (getD words (2 * i) 0) noRule)) || unitChanges codes rules (membersFrom words (i + 1)))
+          → ((v && ruleChanges codes (getD rules (getD words (2 * i) 0) noRule)) || unitChanges codes rules
+              (membersFrom words (i + 1)))
           ≡ unitChanges codes rules (keep v (getD words (2 * i) 0 ∷ []) ++ membersFrom words (i + 1))
       go true = refl
       go false = refl
@@ -83,14 +84,16 @@ pub record Across (source : Source) (codes : List ℕ) (rules : List Rule) (word
   pub rest : unitCoded source codes rules (membersFrom words i) (controlsOf r)
       ≡ unitCoded source codes rules (matchedIn (journalList words)) (controlsOf c)
 
-pub across-none : (source : Source) (codes : List ℕ) (rules : List Rule) (words : List ℕ) (c : Controls) → Across source codes rules words c c 0
+pub across-none : (source : Source) (codes : List ℕ) (rules : List Rule) (words : List ℕ) (c : Controls) → Across source codes
+    rules words c c 0
 across-none source codes rules words c = record { kept = became-same c; rest = refl }
 
 module _ (source : Source) (codes : List ℕ) (rules : List Rule) (words : List ℕ) (c r : Controls) (i : ℕ)
     (across : Across source codes rules words c r i) where
   -- the members from entry i on are those of a list
   rest-of : (ms : List ℕ) → membersFrom words i ≡ ms
-      → unitCoded source codes rules ms (controlsOf r) ≡ unitCoded source codes rules (matchedIn (journalList words)) (controlsOf c)
+      → unitCoded source codes rules ms (controlsOf r) ≡ unitCoded source codes rules (matchedIn (journalList words))
+          (controlsOf c)
   rest-of ms e = ap (λ (l : List ℕ). unitCoded source codes rules l (controlsOf r)) (sym e) ∙ across .rest
 
   -- r′ is what the turn leaves
@@ -110,7 +113,8 @@ module _ (source : Source) (codes : List ℕ) (rules : List Rule) (words : List 
       = b .meaning ∙ ap (λ (a : Rule). ruleCoded source codes a (controlsOf r)) is in
       subst (λ (x : Controls). Across source codes rules words c x (i + 1)) (sym e)
       (record {
-        kept = record { meaning = refl; starts = both .starts; ends = both .ends; phases = both .phases; positions = both .positions };
+        kept = record { meaning = refl; starts = both .starts; ends = both .ends; phases = both .phases; positions = both
+            .positions };
         rest = ap (unitCoded source codes rules (membersFrom words (i + 1))) by
             ∙ rest-of (getD words (2 * i) 0 ∷ membersFrom words (i + 1)) (member-here words i h n);
       })

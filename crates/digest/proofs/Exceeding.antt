@@ -13,7 +13,8 @@ use Rattle.reading.specs.Lists.{total}
 use Rattle.reading.specs.Records.{ruleList}
 use Rattle.digest.specs.Codes.{ruleWeight}
 use Rattle.digest.proofs.TotalLaws.{clip-take, total-take-le, total-none, total-part-le}
-use Rattle.digest.proofs.Summing.{length-rules, rules-more}
+use Rattle.text.proofs.RecordLaws.{length-rules}
+use Rattle.digest.proofs.Summing.{rules-more}
 
 -- what is held, what the rules up to index i add, and what is left make the limit
 pub record Left (w : ℕ → ℕ) (codes rules : List ℕ) (held limit left i : ℕ) : Type 0 where
@@ -62,7 +63,8 @@ module _ (w : ℕ → ℕ) (all rules : List ℕ) (held limit : ℕ) where
 
       pub left-end : length rules / 5 ≤ i → false ≡ ltb limit (held + total (ruleWeight w (take 4096 all)) (ruleList rules))
       left-end h =
-          let whole : take i (ruleList rules) ≡ ruleList rules = take-all i (ruleList rules) (omega (arith, length-rules rules)) in
+          let whole : take i (ruleList rules) ≡ ruleList rules = take-all i (ruleList rules) (omega (arith, length-rules rules))
+              in
           let a : held + total (ruleWeight w (take n all)) (ruleList rules) ≤ limit
           = omega (arith, so .sum, ap (total (ruleWeight w (take n all))) whole) in
           rw (← first-codes) (sym (le-ltb limit _ a))

@@ -105,7 +105,8 @@ module _ (text : List ℕ) (a : Action) where
       d : Directive
       d = directiveOf (partOf text (a .text)) (partOf text (a .value))
 
-      go : (t : Bool) → Alike (rangesCoded (cond t (codeOf (withoutLists (partOf text (a .value)) d)) 0)) (cond t (rangeCount d) 0)
+      go : (t : Bool) → Alike (rangesCoded (cond t (codeOf (withoutLists (partOf text (a .value)) d)) 0))
+          (cond t (rangeCount d) 0)
       go true = ranges-by (partOf text (a .value)) d
       go false = refl
 
@@ -127,7 +128,8 @@ module _ (w : ℕ → ℕ) (none : List ℕ) (z : total w none ≡ 0) where
   front-weight zero (x ∷ l) = refl
   front-weight (suc count) (x ∷ l) = ap (λ (n : ℕ). w x + n) (front-weight count l)
 
-  part-weight : (first count : ℕ) (l : List ℕ) → total w (take count (drop first (l ++ none))) ≡ total w (take count (drop first l))
+  part-weight : (first count : ℕ) (l : List ℕ) → total w (take count (drop first (l ++ none))) ≡ total w
+      (take count (drop first l))
   part-weight zero count l = front-weight count l
   part-weight (suc first) count [] = rw take-nil (omega (arith, total-part-le w (suc first) count none))
   part-weight (suc first) count (x ∷ l) = part-weight first count l
@@ -144,7 +146,8 @@ Coded q codes = (w : ℕ → ℕ) → w 0 ≡ 0 → (r : Rule)
 coded-all : (q : Call) → Coded q (codesOf (q .text) (q .actions))
 coded-all q w z r =
     let code = codeAt (q .text) in
-    let part : take (r .count) (drop (r .first) (map code (q .actions))) ≡ map code (take (r .count) (drop (r .first) (q .actions)))
+    let part : take (r .count) (drop (r .first) (map code (q .actions))) ≡ map code
+        (take (r .count) (drop (r .first) (q .actions)))
     = ap (take (r .count)) (drop-map code (r .first) (q .actions)) ∙ take-map code (r .count) (drop (r .first) (q .actions)) in
     ap (total w) part ∙ total-map code w (take (r .count) (drop (r .first) (q .actions)))
 
@@ -179,11 +182,13 @@ module _ (q : Call) (codes : List ℕ) (coded : Coded q codes) where
       ∙ (ap (λ (w : Action → ℕ). total w (take (r .count) (drop (r .first) (q .actions)))) (fun-ext (targets-coded (q .text)))
       ∙ sym (rule-total q targetCount r))
 
-  ranges-exceed : ltb 256 (length (q .transaction .controls .ranges) + total (ruleWeight rangesCoded codes) (q .rules)) ≡ refused8 q
+  ranges-exceed : ltb 256 (length (q .transaction .controls .ranges) + total (ruleWeight rangesCoded codes) (q .rules)) ≡ refused8
+      q
   unfolding refused8
   ranges-exceed = exceeds-alike (length (q .transaction .controls .ranges)) _ _ (total-alike _ _ ranges-rule (q .rules))
 
-  targets-exceed : ltb 64 (length (q .transaction .controls .targets) + total (ruleWeight targetsCoded codes) (q .rules)) ≡ refused9 q
+  targets-exceed : ltb 64 (length (q .transaction .controls .targets) + total (ruleWeight targetsCoded codes) (q .rules)) ≡
+      refused9 q
   unfolding refused9
   targets-exceed =
       ap (λ (w : Rule → ℕ). ltb 64 (length (q .transaction .controls .targets) + total w (q .rules))) (fun-ext targets-rule)

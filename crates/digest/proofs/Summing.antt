@@ -10,7 +10,7 @@ use Rattle.reading.specs.declared.Rule.{Rule}
 use Rattle.reading.specs.Lists.{total}
 use Rattle.reading.specs.Records.{ruleFrom, ruleList}
 use Rattle.reading.specs.Call.{noRule}
-use Rattle.actions.proofs.RecordLaws.{length-values, getD-values}
+use Rattle.text.proofs.RecordLaws.{length-rules, rule-is}
 use Rattle.digest.specs.Codes.{ruleWeight}
 use Rattle.digest.specs.Weights.{Summed}
 use Rattle.digest.proofs.TotalLaws.{total-more, total-between}
@@ -67,20 +67,11 @@ part-is w codes sums s n first count from size ne fe se =
     s .at-each (from + size) (omega arith)
     ∙ rw (s .at-each from (omega arith), f, z) (total-between w codes first count)
 
-module _ (rules : List ℕ) where
-  pub length-rules : length (ruleList rules) ≡ length rules / 5
-  unfolding ruleList
-  length-rules = length-values (ruleFrom rules) (length rules / 5)
-
-  rule-is : (i : ℕ) → i < length rules / 5 → getD (ruleList rules) i noRule ≡ ruleFrom rules i
-  unfolding ruleList
-  rule-is i h = getD-values (ruleFrom rules) (length rules / 5) i noRule h
-
 -- one rule more
 module _ (w : ℕ → ℕ) (codes rules : List ℕ) where
   pub rules-more : (i : ℕ) → i < length rules / 5
-      → total (ruleWeight w codes) (take (i + 1) (ruleList rules)) ≡ total (ruleWeight w codes) (take i (ruleList rules)) + total w
-      (take (getD rules (5 * i + 4) 0) (drop (getD rules (5 * i + 3) 0) codes))
+      → total (ruleWeight w codes) (take (i + 1) (ruleList rules)) ≡ total (ruleWeight w codes) (take i (ruleList rules))
+      + total w (take (getD rules (5 * i + 4) 0) (drop (getD rules (5 * i + 3) 0) codes))
   rules-more i h =
       total-more (ruleWeight w codes) (ruleList rules) i noRule (omega (arith, length-rules rules))
-      ∙ ap (λ (r : Rule). total (ruleWeight w codes) (take i (ruleList rules)) + ruleWeight w codes r) (rule-is rules i h)
+      ∙ ap (λ (r : Rule). total (ruleWeight w codes) (take i (ruleList rules)) + ruleWeight w codes r) (rule-is rules i noRule h)

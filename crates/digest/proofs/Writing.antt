@@ -30,7 +30,8 @@ module _ (text : List ℕ) (actions : List Action) (found : List ℕ) where
       let new = codesOf text (take i actions) in
       let here : length new ≡ i = length-map (take i actions) (codeAt text) ∙ length-take-le i actions (omega arith) in
       let longer : codesOf text (take (i + 1) actions) ≡ new ++ v ∷ []
-      = rw (add-one, take-suc actions i noAction, is) (map-append (codeAt text) (take i actions) (getD actions i noAction ∷ [])) in
+      = rw (add-one, take-suc actions i noAction, is) (map-append (codeAt text) (take i actions) (getD actions i noAction ∷ []))
+          in
       ap (λ (l : List ℕ). set l i v) so
       ∙ (ap (λ (k : ℕ). set (fitting found new) k v) (sym here)
       ∙ (fitting-more found new v ∙ ap (fitting found) (sym longer)))
@@ -53,7 +54,8 @@ module _ (text : List ℕ) (a b : Action) (is : b ≡ a) where
   code-none ne = let z = ne-eqb (b .kind) 19 ne in rw (← is, z)
 
   module _ (eq : b .kind ≡ 19) where
-    pub code-ctl : {name value : List ℕ} {d : CtlDirective} {r : ℕ} → name ≡ partOf text (b .text) → value ≡ partOf text (b .value)
+    pub code-ctl : {name value : List ℕ} {d : CtlDirective} {r : ℕ} → name ≡ partOf text (b .text) → value ≡ partOf text
+        (b .value)
         → d ≡ withoutLists value (directiveOf name value)
         → r ≡ codeOf d
         → r ≡ codeAt text a

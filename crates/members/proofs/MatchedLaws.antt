@@ -12,35 +12,28 @@ use Rattle.reading.specs.Lists.{keep}
 use Rattle.reading.specs.declared.JournalEntry.{JournalEntry}
 use Rattle.reading.specs.Records.{journalFrom, journalList, matchedIn}
 use Rattle.reading.specs.Units.{starterOf, closerOf}
-use Rattle.ruleset.proofs.RecordLaws.{length-records, record-is, drop-records, records-end}
+use Rattle.text.proofs.RecordLaws.{record-is, length-entries, drop-entries, entries-end}
 
 pub noEntry : JournalEntry
 noEntry = record { index = 0; verdict = 0 }
 
 module _ (words : List ℕ) where
-  pub length-entries : length (journalList words) ≡ length words / 2
-  unfolding journalList
-  length-entries = length-records 2 journalFrom words
-
-  pub drop-entries : (k : ℕ) → k < length words / 2 → drop k (journalList words) ≡ journalFrom words k ∷ drop (k + 1) (journalList words)
-  unfolding journalList
-  drop-entries k h = drop-records 2 journalFrom words k h ∙ ap (λ (n : ℕ). journalFrom words k ∷ drop n (journalList words)) (sym (add-one k))
-
-  pub entries-end : (k : ℕ) → length words / 2 ≤ k → drop k (journalList words) ≡ []
-  unfolding journalList
-  entries-end k h = records-end 2 journalFrom words k h
+  -- the entries from k on
+  pub next-entries : (k : ℕ) → k < length words / 2 → drop k (journalList words) ≡ journalFrom words k ∷ drop (k + 1)
+      (journalList words)
+  next-entries k h = drop-entries words k h ∙ ap (λ (n : ℕ). journalFrom words k ∷ drop n (journalList words)) (sym (add-one k))
 
   -- the entry at k, matched or not
   pub matched-yes : (k : ℕ) → k < length words / 2 → getD words (2 * k + 1) 0 ≡ 1
       → matchedIn (drop k (journalList words)) ≡ getD words (2 * k) 0 ∷ matchedIn (drop (k + 1) (journalList words))
-  matched-yes k h e = rw (drop-entries k h, eq-eqb (getD words (2 * k + 1) 0) 1 e)
+  matched-yes k h e = rw (next-entries k h, eq-eqb (getD words (2 * k + 1) 0) 1 e)
 
   pub matched-no : (k : ℕ) → k < length words / 2 → (getD words (2 * k + 1) 0 ≡ 1 → ⊥)
       → matchedIn (drop k (journalList words)) ≡ matchedIn (drop (k + 1) (journalList words))
-  matched-no k h e = rw (drop-entries k h, ne-eqb (getD words (2 * k + 1) 0) 1 e)
+  matched-no k h e = rw (next-entries k h, ne-eqb (getD words (2 * k + 1) 0) 1 e)
 
   pub matched-end : (k : ℕ) → length words / 2 ≤ k → matchedIn (drop k (journalList words)) ≡ []
-  matched-end k h = rw (entries-end k h)
+  matched-end k h = rw (entries-end words k h)
 
 -- the last member of a list with one more, and of entries of which the later ones are not matched
 closer-last : (ms : List ℕ) (m : ℕ) → closerOf (ms ++ (m ∷ [])) ≡ m
@@ -69,7 +62,9 @@ module _ (words : List ℕ) (k : ℕ) (h : k < length words / 2) where
   pub closer-no : (getD words (2 * k + 1) 0 ≡ 1 → ⊥)
       → closerOf (matchedIn (take k (journalList words))) ≡ closerOf (matchedIn (take (k + 1) (journalList words)))
   closer-no e =
-      rw (one-more, matched-append (take k (journalList words)) (journalFrom words k ∷ []), ne-eqb (getD words (2 * k + 1) 0) 1 e, append-nil)
+      rw (one-more, matched-append (take k (journalList words)) (journalFrom words k ∷ []), ne-eqb (getD words (2 * k + 1) 0) 1 e,
+          append-nil)
 
-pub closer-all : (words : List ℕ) → closerOf (matchedIn (take (length words / 2) (journalList words))) ≡ closerOf (matchedIn (journalList words))
+pub closer-all : (words : List ℕ) → closerOf (matchedIn (take (length words / 2) (journalList words))) ≡ closerOf
+    (matchedIn (journalList words))
 closer-all words = rw (take-all (length words / 2) (journalList words) (omega (arith, length-entries words)))

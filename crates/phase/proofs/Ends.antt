@@ -12,7 +12,8 @@ use Rattle.reading.specs.Reading.{rust}
 use Rattle.reading.specs.Controls.{Controls, isOn}
 use Rattle.reading.specs.Call.{Call, modeUnder, isLink, ruleCount}
 use Rattle.reading.specs.Units.{unitDisruptive, unitIntervention, isAllow, isStopping}
-use Rattle.reading.specs.Walk.{State, Visit, goesOn, allows, errs, stops, isLast, isError, givesAllow, interventionOr, visitBy, visitAt, verdictAt}
+use Rattle.reading.specs.Walk.{State, Visit, goesOn, allows, errs, stops, isLast, isError, givesAllow, interventionOr, visitBy}
+use Rattle.reading.specs.Walk.{visitAt, verdictAt}
 use Rattle.reading.specs.Walk as reading
 use Rattle.visit.specs.declared.Visited.{Visited}
 use Rattle.visit.specs.declared.State as code
@@ -78,19 +79,23 @@ module _ (q : Call) (reading : q .reading ≡ rust) (st : State) (chained : Bool
   ending-by Verdict.Removed false d e = rw e
   ending-by Verdict.Error l d e = refl
 
-  stopping-by : (v : Verdict) (l : Bool) (i : Intervention) → (byCode q reading st chained first v l .closes ≡ true → i ≡ unitIntervention q unit)
+  stopping-by : (v : Verdict) (l : Bool) (i : Intervention)
+      → (byCode q reading st chained first v l .closes ≡ true → i ≡ unitIntervention q unit)
       → interventionOr (visitBy q st v l .ending) OptionIntervention.None ≡ stoppedBy (kindOf (visitBy q st v l .ending)) i
   stopping-by Verdict.Missed l i e = refl
   stopping-by Verdict.Matched true i e = refl
-  stopping-by Verdict.Matched false i e = rw (e refl) (stop-by true true (unitIntervention q unit) (isAllow (unitDisruptive q unit))
+  stopping-by Verdict.Matched false i e = rw (e refl)
+      (stop-by true true (unitIntervention q unit) (isAllow (unitDisruptive q unit))
       (isStopping (unitDisruptive q unit) && isOn (modeUnder q (visitBy q st Verdict.Matched false .after .controls))))
   stopping-by Verdict.Removed true i e = refl
   stopping-by Verdict.Removed false i e = refl
   stopping-by Verdict.Error l i e = refl
 
 -- the same of the rule that the walk stands at
-module _ (q : Call) (reading : q .reading ≡ rust) (ms : List ℕ) (c : Controls) (s : code.State) (visits : ℕ) (inside : s .next < ruleCount q)
-    (found : Verdict) (found-is : found ≡ verdictAt q c (s .next)) (w : Visited) (w-is : w ≡ foundAt (q .rules) s visits found) where
+module _ (q : Call) (reading : q .reading ≡ rust) (ms : List ℕ) (c : Controls) (s : code.State) (visits : ℕ)
+    (inside : s .next < ruleCount q)
+    (found : Verdict) (found-is : found ≡ verdictAt q c (s .next)) (w : Visited) (w-is : w ≡ foundAt (q .rules) s visits found)
+        where
   abbrev v : Visit
   v = visitOf q reading ms c s visits inside found found-is w w-is
 
@@ -104,7 +109,8 @@ module _ (q : Call) (reading : q .reading ≡ rust) (ms : List ℕ) (c : Control
       → kindOf (v .ending) ≡ endBy found d (modeUnder q (v .after .controls))
   ending-is d e =
       let z = ending-by q reading st (s .chained) (entryBy s visits) found (isLink q (s .next)) d
-      (e ∙ ap (λ (x : Visited). cond (x .closes) (unitDisruptive q unitNow) DisruptiveOutcome.Nothing) (code-is q reading ms c s visits inside found found-is w w-is)) in
+      (e ∙ ap (λ (x : Visited). cond (x .closes) (unitDisruptive q unitNow) DisruptiveOutcome.Nothing)
+          (code-is q reading ms c s visits inside found found-is w w-is)) in
       rw (visit-is q reading ms c s visits inside found found-is w w-is) z
 
   pub stopping-is : (i : Intervention) → (w .closes ≡ true → i ≡ unitIntervention q unitNow)

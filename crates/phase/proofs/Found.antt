@@ -34,13 +34,15 @@ false-true e = true-false (sym e)
 
 -- what the code finds of a rule is the definition's verdict, as long as all held ranges are in the arrays
 pub found-law : (q : Call) (c : held.Controls) (i : ℕ) (found : Verdict) → c .ranges ≤ 256
-    → found ≡ cond (isRemoved (rangeList (min (c .ranges) 256) (c .starts) (c .ends)) (recordId (getD (q .rules) i noRule))) Verdict.Removed (verdictBy (getD (q .outcomes) i 0))
+    → found ≡ cond (isRemoved (rangeList (min (c .ranges) 256) (c .starts) (c .ends)) (recordId (getD (q .rules) i noRule)))
+        Verdict.Removed (verdictBy (getD (q .outcomes) i 0))
     → found ≡ verdictAt q (controlsOf c) i
 unfolding verdictAt idAt ruleAt outcomeAt controlsOf
 found-law q c i found h e = let z : min (c .ranges) 256 ≡ c .ranges = omega arith in rw z at e
 
 -- the mode under the controls of a struct
-pub mode-law : (q : Call) (c : held.Controls) (m now : RuleEngineMode) → m ≡ modeNumbered (q .mode) → now ≡ modeOr m (c .settings .mode)
+pub mode-law : (q : Call) (c : held.Controls) (m now : RuleEngineMode) → m ≡ modeNumbered (q .mode) → now ≡ modeOr m
+    (c .settings .mode)
     → now ≡ modeUnder q (controlsOf c)
 unfolding controlsOf
 mode-law q c m now e f = rw e at f
@@ -79,7 +81,8 @@ module _ (q : Call) (reading : q .reading ≡ rust) (st : State) (chained : Bool
   controls-by Verdict.Error l = refl
 
   next-by : (v : Verdict) (l : Bool)
-      → visitBy q st v l .after .next ≡ cond (byCode v l .closes) (afterFlow q (byCode v l .after .next) (unitFlow q unit)) (byCode v l .after .next)
+      → visitBy q st v l .after .next ≡ cond (byCode v l .closes) (afterFlow q (byCode v l .after .next) (unitFlow q unit))
+          (byCode v l .after .next)
   next-by Verdict.Missed l = refl
   next-by Verdict.Matched true = sym (add-one (st .next))
   next-by Verdict.Matched false = rw (add-one (st .next))
@@ -123,8 +126,10 @@ module _ (q : Call) (reading : q .reading ≡ rust) (st : State) (chained : Bool
       kept false d = sym (h d)
 
 -- the same of the rule that the walk stands at
-module _ (q : Call) (reading : q .reading ≡ rust) (ms : List ℕ) (c : Controls) (s : code.State) (visits : ℕ) (inside : s .next < ruleCount q)
-    (found : Verdict) (found-is : found ≡ verdictAt q c (s .next)) (w : Visited) (w-is : w ≡ foundAt (q .rules) s visits found) where
+module _ (q : Call) (reading : q .reading ≡ rust) (ms : List ℕ) (c : Controls) (s : code.State) (visits : ℕ)
+    (inside : s .next < ruleCount q)
+    (found : Verdict) (found-is : found ≡ verdictAt q c (s .next)) (w : Visited) (w-is : w ≡ foundAt (q .rules) s visits found)
+        where
   abbrev pub stateOf : State
   stateOf = record { next = s .next; members = ms; controls = c }
 
@@ -171,9 +176,11 @@ module _ (q : Call) (reading : q .reading ≡ rust) (ms : List ℕ) (c : Control
 
   pub closes-matched : w .closes ≡ true → found ≡ Verdict.Matched
   closes-matched e =
-      matched-by q reading stateOf (s .chained) (entryBy s visits) found (isLink q (s .next)) (ap (λ (x : Visited). x .closes) (sym code-is) ∙ e)
+      matched-by q reading stateOf (s .chained) (entryBy s visits) found (isLink q (s .next))
+          (ap (λ (x : Visited). x .closes) (sym code-is) ∙ e)
 
-  pub members-are : (since : List ℕ) → since ≡ ms ++ keep (eqb (verdictNumber found) 1) (s .next ∷ []) → (s .chained ≡ false → ms ≡ [])
+  pub members-are : (since : List ℕ) → since ≡ ms ++ keep (eqb (verdictNumber found) 1) (s .next ∷ [])
+      → (s .chained ≡ false → ms ≡ [])
       → keep (w .after .chained) since ≡ visitOf .after .members
   members-are since e h =
       rw (visit-is, code-is) (members-by q reading stateOf (s .chained) (entryBy s visits) found (isLink q (s .next)) since e h)

@@ -22,7 +22,9 @@ use Rattle.reading.specs.Controls.{isOff}
 use Rattle.reading.specs.Controls as reading
 use Rattle.reading.specs.Call.{Call, ruleCount, modeUnder}
 use Rattle.reading.specs.Units.{unitIds, unitData, unitControls, unitFlow, unitDisruptive, unitIntervention}
-use Rattle.reading.specs.Walk.{Visit, isLast, entryOf, journalOf, closedIn, idsOf, dataOf, controlsAfter, allowedBy, interventionOr, interventionBy, answerBy, errorIndexBy, walk, start, verdictAt, visitAt, afterFlow, givesAllow, isError}
+use Rattle.reading.specs.Walk.{Visit, isLast, entryOf, journalOf, closedIn, idsOf, dataOf, controlsAfter, allowedBy}
+use Rattle.reading.specs.Walk.{interventionOr, interventionBy, answerBy, errorIndexBy, walk, start, verdictAt, visitAt, afterFlow}
+use Rattle.reading.specs.Walk.{givesAllow, isError}
 use Rattle.reading.specs.Outcome.{atFreeEnd}
 use Rattle.control.specs.declared.Controls.{Controls}
 use Rattle.control.specs.Held.{controlsOf, Became}
@@ -32,7 +34,8 @@ use Rattle.coded.proofs.StepLaws.{Grown, grown-then}
 use Rattle.coded.proofs.Fits.{sourceOf, unit-fits, unit-idle}
 use Rattle.digest.specs.Codes.{codesOf}
 use Rattle.members.proofs.MatchedLaws.{matched-append}
-use Rattle.members.proofs.WordLaws.{length-journal-words, journal-words-append, length-data-words, data-words-append, journal-part}
+use Rattle.members.proofs.WordLaws.{length-journal-words, journal-words-append, length-data-words, data-words-append}
+use Rattle.members.proofs.WordLaws.{journal-part}
 use Rattle.visit.specs.declared.State.{State}
 use Rattle.visit.specs.declared.Visited.{Visited}
 use Rattle.visit.specs.Found.{entryBy, foundAt}
@@ -43,13 +46,16 @@ use Rattle.intervention.specs.Ends.{endBy, stoppedBy}
 use Rattle.phase.specs.declared.Transaction.{Transaction}
 use Rattle.phase.specs.declared.Phase.{Phase}
 use Rattle.phase.specs.Walked.{visitsFrom, Ready, isGoing, isErrs, isAllows, endedBy, Walked}
-use Rattle.phase.proofs.Turns.{walk-step, walk-end, walk-off, walk-clip, journal-more, ids-append, data-append, controls-append, length-journal, Going, going-more, answer-after, error-after, allowed-after, intervention-after, visit-grows, kept-grows, walk-grows, true-false}
+use Rattle.phase.proofs.Turns.{walk-step, walk-end, walk-off, walk-clip, journal-more, ids-append, data-append}
+use Rattle.phase.proofs.Turns.{controls-append, length-journal, Going, going-more, answer-after, error-after}
+use Rattle.phase.proofs.Turns.{allowed-after, intervention-after, visit-grows, kept-grows, walk-grows, true-false}
 use Rattle.phase.proofs.Parts.{put-part, lent-is, lent-length, whole-length}
 use Rattle.phase.proofs.Found.{entry-is, closed-is, controls-is, next-is, first-is, closes-matched, members-are}
 use Rattle.phase.proofs.Ends.{kindOf, last-kind, error-kind, allow-kind, ending-is, stopping-is}
 
 -- what the three lists hold after the visits `done`
-pub record Written (q : Call) (t : Transaction) (ids₀ entries₀ journal₀ : List ℕ) (done : List Visit) (ids entries journal : List ℕ)
+pub record Written (q : Call) (t : Transaction) (ids₀ entries₀ journal₀ : List ℕ) (done : List Visit)
+    (ids entries journal : List ℕ)
     (visits listed written : ℕ) : Type 0 where
   pub count : length done ≡ visits
   pub journal-is : journal ≡ journalWords (journalOf done) ++ drop (2 * visits) journal₀
@@ -59,12 +65,14 @@ pub record Written (q : Call) (t : Transaction) (ids₀ entries₀ journal₀ : 
   pub written-is : written ≡ t .entries + length (dataOf q done)
 
 -- how far the walk is
-pub record Sofar (q : Call) (t : Transaction) (ids₀ entries₀ journal₀ : List ℕ) (ids entries journal : List ℕ) (c : Controls) (s : State)
+pub record Sofar (q : Call) (t : Transaction) (ids₀ entries₀ journal₀ : List ℕ) (ids entries journal : List ℕ) (c : Controls)
+    (s : State)
     (visits listed written : ℕ) : Type 0 where
   -- the visits so far, and the members of the open chain
   pub done : List Visit
   pub members : List ℕ
-  pub whole : visitsFrom q ≡ done ++ walk (ruleCount q - visits) q (record { next = s .next; members = members; controls = controlsOf c })
+  pub whole : visitsFrom q ≡ done ++ walk (ruleCount q - visits) q
+      (record { next = s .next; members = members; controls = controlsOf c })
   pub going : Going done
   pub lists : Written q t ids₀ entries₀ journal₀ done ids entries journal visits listed written
   pub controls : Became (t .controls) c (controlsAfter (controlsOf (t .controls)) done)
@@ -73,9 +81,11 @@ pub record Sofar (q : Call) (t : Transaction) (ids₀ entries₀ journal₀ : Li
   pub entry : entryBy s visits ≤ visits
   pub ahead : visits ≤ s .next
 
-pub sofar-none : (q : Call) (t : Transaction) (codes ids entries journal : List ℕ) → q .transaction .controls ≡ controlsOf (t .controls)
+pub sofar-none : (q : Call) (t : Transaction) (codes ids entries journal : List ℕ) → q .transaction .controls ≡ controlsOf
+    (t .controls)
     → Ready q t codes ids entries journal
-    → Sofar q t ids entries journal ids entries journal (t .controls) (record { next = 0; chained = false; first = 0 }) 0 (t .ids) (t .entries)
+    → Sofar q t ids entries journal ids entries journal (t .controls) (record { next = 0; chained = false; first = 0 }) 0 (t .ids)
+        (t .entries)
 sofar-none q t codes ids entries journal held ready =
     record {
       done = [];
@@ -106,15 +116,18 @@ module _ (q : Call) (t : Transaction) (codes ids₀ entries₀ journal₀ : List
 
   ids-room : length (idsOf q done) + length (idsOf q rest) ≤ ruleCount q
   ids-room =
-      let z : length (idsOf q (visitsFrom q)) ≡ length (idsOf q done ++ idsOf q rest) = ap length (ap (idsOf q) whole ∙ ids-append q done rest) in
+      let z : length (idsOf q (visitsFrom q)) ≡ length (idsOf q done ++ idsOf q rest) = ap length
+          (ap (idsOf q) whole ∙ ids-append q done rest) in
       omega (arith, length-append (idsOf q done) (idsOf q rest), ready .ids-few)
 
   data-room : length (dataOf q done) + length (dataOf q rest) ≤ ruleCount q
   data-room =
-      let z : length (dataOf q (visitsFrom q)) ≡ length (dataOf q done ++ dataOf q rest) = ap length (ap (dataOf q) whole ∙ data-append q done rest) in
+      let z : length (dataOf q (visitsFrom q)) ≡ length (dataOf q done ++ dataOf q rest) = ap length
+          (ap (dataOf q) whole ∙ data-append q done rest) in
       omega (arith, length-append (dataOf q done) (dataOf q rest), ready .data-few)
 
-  module _ (ids entries journal : List ℕ) (visits listed written : ℕ) (w : Written q t ids₀ entries₀ journal₀ done ids entries journal visits listed written) where
+  module _ (ids entries journal : List ℕ) (visits listed written : ℕ)
+      (w : Written q t ids₀ entries₀ journal₀ done ids entries journal visits listed written) where
     pub journal-done : length (journalWords (journalOf done)) ≡ 2 * visits
     journal-done = omega (arith, length-journal-words (journalOf done), length-journal done, w .count)
 
@@ -148,7 +161,8 @@ module _ (q : Call) (t : Transaction) (codes ids₀ entries₀ journal₀ : List
 
     pub journal-length : length journal ≡ length journal₀
     journal-length =
-        rw (w .journal-is) (whole-length (journalWords (journalOf done)) journal₀ (2 * visits) journal-done (omega (arith, journal-inside)))
+        rw (w .journal-is) (whole-length (journalWords (journalOf done)) journal₀ (2 * visits) journal-done
+            (omega (arith, journal-inside)))
 
     pub ids-length : length ids ≡ length ids₀
     ids-length =
@@ -157,7 +171,8 @@ module _ (q : Call) (t : Transaction) (codes ids₀ entries₀ journal₀ : List
     pub entries-length : length entries ≡ length entries₀
     entries-length =
         rw (w .entries-are)
-        (whole-length (take (4 * t .entries) entries₀ ++ dataWords (dataOf q done)) entries₀ (4 * written) entries-done (omega (arith, entries-inside)))
+        (whole-length (take (4 * t .entries) entries₀ ++ dataWords (dataOf q done)) entries₀ (4 * written) entries-done
+            (omega (arith, entries-inside)))
 
 -- the lists at the head of a turn, and the ranges that are held
 module _ (q : Call) (t : Transaction) (codes ids₀ entries₀ journal₀ : List ℕ) (ready : Ready q t codes ids₀ entries₀ journal₀)
@@ -168,30 +183,36 @@ module _ (q : Call) (t : Transaction) (codes ids₀ entries₀ journal₀ : List
 
   pub journal-same : length journal ≡ length journal₀
   journal-same =
-      journal-length q t codes ids₀ entries₀ journal₀ ready (so .done) left (so .whole) ids entries journal visits listed written (so .lists)
+      journal-length q t codes ids₀ entries₀ journal₀ ready (so .done) left (so .whole) ids entries journal visits listed written
+          (so .lists)
 
   pub ids-same : length ids ≡ length ids₀
-  ids-same = ids-length q t codes ids₀ entries₀ journal₀ ready (so .done) left (so .whole) ids entries journal visits listed written (so .lists)
+  ids-same = ids-length q t codes ids₀ entries₀ journal₀ ready (so .done) left (so .whole) ids entries journal visits listed
+      written (so .lists)
 
   pub entries-same : length entries ≡ length entries₀
   entries-same =
-      entries-length q t codes ids₀ entries₀ journal₀ ready (so .done) left (so .whole) ids entries journal visits listed written (so .lists)
+      entries-length q t codes ids₀ entries₀ journal₀ ready (so .done) left (so .whole) ids entries journal visits listed written
+          (so .lists)
 
   pub few-ranges : c .ranges ≤ 256
   few-ranges =
       let m = so .controls .meaning in
       let z : controlsAfter (controlsOf (t .controls)) (visitsFrom q) ≡ controlsAfter (controlsOf c) left =
       ap (controlsAfter (controlsOf (t .controls))) (so .whole)
-      ∙ (controls-append (controlsOf (t .controls)) (so .done) left ∙ ap (λ (x : reading.Controls). controlsAfter x left) (sym m)) in
+      ∙ (controls-append (controlsOf (t .controls)) (so .done) left ∙ ap (λ (x : reading.Controls). controlsAfter x left) (sym m))
+          in
       let g : Grown (controlsOf c) (controlsAfter (controlsOf (t .controls)) (visitsFrom q)) =
       rw z (walk-grows (ruleCount q - visits) q (record { next = s .next; members = so .members; controls = controlsOf c })) in
-      let l : length (controlsOf c .ranges) ≡ length (controlsAfter (controlsOf (t .controls)) (so .done) .ranges) = ap (λ (x : reading.Controls). length (x .ranges)) m in
+      let l : length (controlsOf c .ranges) ≡ length (controlsAfter (controlsOf (t .controls)) (so .done) .ranges) = ap
+          (λ (x : reading.Controls). length (x .ranges)) m in
       omega (arith, became-ranges (so .controls), g .ranges, ready .ranges, l)
 
 -- THE END
 
 -- what is written at the end is what is promised
-pub finished : (q : Call) (t : Transaction) (ids₀ entries₀ journal₀ ids entries journal : List ℕ) (c : Controls) (visits listed written last : ℕ) (e : Ending)
+pub finished : (q : Call) (t : Transaction) (ids₀ entries₀ journal₀ ids entries journal : List ℕ) (c : Controls)
+    (visits listed written last : ℕ) (e : Ending)
     (stop : OptionIntervention)
     → Written q t ids₀ entries₀ journal₀ (visitsFrom q) ids entries journal visits listed written
     → Became (t .controls) c (controlsAfter (controlsOf (t .controls)) (visitsFrom q))
@@ -209,10 +230,12 @@ finished q t ids₀ entries₀ journal₀ ids entries journal c visits listed wr
           w .journal-is ∙ ap (λ (k : ℕ). journalWords (journalOf (visitsFrom q)) ++ drop k journal₀) n;
       ids-listed =
           rw (w .ids-are, w .listed-is, ← drop-drop (length (idsOf q (visitsFrom q))) (t .ids) ids₀)
-          (append-assoc (take (t .ids) ids₀) (idsOf q (visitsFrom q)) (drop (length (idsOf q (visitsFrom q))) (drop (t .ids) ids₀)));
+          (append-assoc (take (t .ids) ids₀) (idsOf q (visitsFrom q))
+              (drop (length (idsOf q (visitsFrom q))) (drop (t .ids) ids₀)));
       data-numbers =
           let d = dataWords (dataOf q (visitsFrom q)) in
-          let n : 4 * written ≡ 4 * t .entries + length d = omega (arith, length-data-words (dataOf q (visitsFrom q)), w .written-is) in
+          let n : 4 * written ≡ 4 * t .entries + length d = omega
+              (arith, length-data-words (dataOf q (visitsFrom q)), w .written-is) in
           rw (w .entries-are, n, ← drop-drop (length d) (4 * t .entries) entries₀)
           (append-assoc (take (4 * t .entries) entries₀) d (drop (length d) (drop (4 * t .entries) entries₀)));
       ids-used = w .listed-is;
@@ -222,12 +245,15 @@ finished q t ids₀ entries₀ journal₀ ids entries journal c visits listed wr
       intervention = i;
     }
 
-pub sofar-end : (q : Call) (t : Transaction) (ids₀ entries₀ journal₀ ids entries journal : List ℕ) (c : Controls) (s : State) (visits listed written : ℕ)
+pub sofar-end : (q : Call) (t : Transaction) (ids₀ entries₀ journal₀ ids entries journal : List ℕ) (c : Controls) (s : State)
+    (visits listed written : ℕ)
     → Sofar q t ids₀ entries₀ journal₀ ids entries journal c s visits listed written → ruleCount q ≤ s .next
-    → Walked q t ids₀ entries₀ journal₀ (endedBy Ending.GoesOn 0 visits listed written OptionIntervention.None c) ids entries journal
+    → Walked q t ids₀ entries₀ journal₀ (endedBy Ending.GoesOn 0 visits listed written OptionIntervention.None c) ids entries
+        journal
 sofar-end q t ids₀ entries₀ journal₀ ids entries journal c s visits listed written so h =
     let e : visitsFrom q ≡ so .done ++ [] =
-    rw (← walk-end (ruleCount q - visits) q (record { next = s .next; members = so .members; controls = controlsOf c }) h) (so .whole) in
+    rw (← walk-end (ruleCount q - visits) q (record { next = s .next; members = so .members; controls = controlsOf c }) h)
+        (so .whole) in
     let d : visitsFrom q ≡ so .done = e ∙ append-nil (so .done) in
     finished q t ids₀ entries₀ journal₀ ids entries journal c visits listed written 0 Ending.GoesOn OptionIntervention.None
     (rw d (so .lists))

@@ -22,7 +22,7 @@ use Rattle.reading.specs.Theorems.Demands.{AsLent, demand3, refused-as-lent, id
 use Rattle.reading.specs.Theorems.Demands.{refused-answer, idle-answer, accepted-answer}
 use Rattle.reading.specs.Theorems.Limits.{Passed, passed, Free, not-seventh, or-false, Within, accepted-within}
 use Rattle.reading.specs.Theorems.Limits.{accepted-visits, ids-within, data-within, visits-within, length-journal}
-use Rattle.ruleset.proofs.RecordLaws.{length-records}
+use Rattle.text.proofs.RecordLaws.{length-records}
 use Rattle.members.proofs.WordLaws.{journal-over, data-free-end}
 use Rattle.control.specs.Held.{controlsOf, Became}
 use Rattle.digest.specs.Codes.{codesOf}

@@ -14,8 +14,8 @@ use Rattle.reading.specs.Records.{ruleList, actionList}
 use Rattle.reading.specs.Call.{Call}
 use Rattle.reading.specs.Walk.{isStopped, nothingToDo}
 use Rattle.reading.specs.Refusals.{refusalOf, refused8, refused9}
-use Rattle.ruleset.proofs.RecordLaws.{length-rules}
-use Rattle.actions.proofs.RecordLaws.{length-actions}
+use Rattle.text.proofs.RecordLaws.{length-rules}
+use Rattle.text.proofs.RecordLaws.{length-actions}
 use Rattle.control.specs.Held.{controlsOf}
 use Rattle.control.proofs.HeldLaws.{ranges-length, targets-length}
 use Rattle.digest.specs.Codes.{codesOf, rangesCoded, targetsCoded, ruleWeight}
@@ -182,4 +182,5 @@ module _ (g : Given) where
     ran-at r ids entries journal w =
         ran-walked (g .phase) (g .mode) (g .status) (g .rules) (g .actions) (g .markers) (g .text) (g .outcomes)
         (g .t) (g .ids) (g .entries) (g .journal) a h r ids entries journal
-        (subst (λ (x : Transaction). Walked (callWith x) x (g .ids) (g .entries) (g .journal) r ids entries journal) (sym is-new) w)
+        (subst (λ (x : Transaction). Walked (callWith x) x (g .ids) (g .entries) (g .journal) r ids entries journal) (sym is-new)
+            w)

@@ -14,7 +14,9 @@ use Rattle.reading.specs.Lists.{keep, gather}
 use Rattle.reading.specs.Controls.{Controls, isOff}
 use Rattle.reading.specs.Call.{Call, ruleCount, modeUnder, isLink}
 use Rattle.reading.specs.Units.{unitIds, unitData, unitControls}
-use Rattle.reading.specs.Walk.{State, Visit, Ending, goesOn, allows, errs, stops, isLast, visitBy, visitAt, verdictAt, isVisited, walk, entryOf, journalOf, closedIn, idsOf, dataOf, controlsAfter, givesAllow, allowedBy, interventionOr, interventionBy, isError, answerBy, errorIndexBy}
+use Rattle.reading.specs.Walk.{State, Visit, Ending, goesOn, allows, errs, stops, isLast, visitBy, visitAt, verdictAt, isVisited}
+use Rattle.reading.specs.Walk.{walk, entryOf, journalOf, closedIn, idsOf, dataOf, controlsAfter, givesAllow, allowedBy}
+use Rattle.reading.specs.Walk.{interventionOr, interventionBy, isError, answerBy, errorIndexBy}
 use Rattle.coded.proofs.StepLaws.{Grown, grown-same, grown-then}
 use Rattle.coded.proofs.Fits.{grows}
 
@@ -44,11 +46,13 @@ walk-off (suc k) q st h = rw (h, not-visited (ltb (st .next) (ruleCount q)))
 
 -- it does not matter how far behind the last rule the walk stands
 pub walk-clip : (k : ℕ) (q : Call) (next : ℕ) (ms : List ℕ) (c : Controls)
-    → walk k q (record { next = min next (ruleCount q); members = ms; controls = c }) ≡ walk k q (record { next = next; members = ms; controls = c })
+    → walk k q (record { next = min next (ruleCount q); members = ms; controls = c }) ≡ walk k q
+        (record { next = next; members = ms; controls = c })
 walk-clip k q next ms c = go (ltb next (ruleCount q)) refl
   where
     go : (b : Bool) → ltb next (ruleCount q) ≡ b
-        → walk k q (record { next = min next (ruleCount q); members = ms; controls = c }) ≡ walk k q (record { next = next; members = ms; controls = c })
+        → walk k q (record { next = min next (ruleCount q); members = ms; controls = c }) ≡ walk k q
+            (record { next = next; members = ms; controls = c })
     go true e = let z : min next (ruleCount q) ≡ next = omega (arith, ltb-true next (ruleCount q) e) in rw z
     go false e =
         let l : ruleCount q ≤ next = ltb-false next (ruleCount q) e in

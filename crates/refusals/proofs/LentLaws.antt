@@ -13,8 +13,8 @@ use Rattle.reading.specs.Records.{ruleList, actionList, markerList}
 use Rattle.reading.specs.Call.{Call}
 use Rattle.reading.specs.Refusals.{refused1, refused2, refused3, refused4, refused5, refused6, refused7}
 use Rattle.reading.specs.Refusals.{badRule, badAction, badMarker, badOutcome}
-use Rattle.actions.proofs.RecordLaws.{length-actions}
-use Rattle.ruleset.proofs.RecordLaws.{length-rules, length-markers}
+use Rattle.text.proofs.RecordLaws.{length-actions}
+use Rattle.text.proofs.RecordLaws.{length-rules, length-markers}
 use Rattle.refusals.specs.declared.Sizes.{Sizes}
 use Rattle.refusals.specs.Lent.{Lent}
 
@@ -31,7 +31,8 @@ module _ {q : Call} {phase mode : ℕ} {rules actions markers text outcomes : Li
       → b ≡ t → refused2 q ≡ t
   unfolding refused2
   says-2 h e =
-      rw (l .rules-are, l .actions-are, l .markers-are, l .text-is, length-rules rules, length-actions actions, length-markers markers)
+      rw (l .rules-are, l .actions-are, l .markers-are, l .text-is, length-rules rules, length-actions actions, length-markers
+          markers)
       (sym h ∙ e)
 
   pub says-3 : {b t : Bool}

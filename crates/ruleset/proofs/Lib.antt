@@ -1,4 +1,3 @@
 -- Laws on plain lists and numbers, for the proofs of the functions.
-pub mod RecordLaws
 pub mod ChainLaws
 pub mod MarkerLaws

@@ -13,7 +13,7 @@ use Rattle.reading.specs.declared.OptionU64.{OptionU64}
 use Rattle.reading.specs.Text.{same, partOf}
 use Rattle.reading.specs.Records.{markerFrom, markerList}
 use Rattle.reading.specs.Markers.{later, markerPosition}
-use Rattle.ruleset.proofs.RecordLaws.{length-markers, marker-is}
+use Rattle.text.proofs.RecordLaws.{length-markers, marker-is}
 
 pub other-length : (a b : List ℕ) → (length a ≡ length b → ⊥) → same a b ≡ false
 unfolding same

@@ -45,6 +45,16 @@ pub fn rule_id(rule: Rule) -> OptionU64
     OptionU64::None
 }
 
+// The outcome of the rule at an index, 0 where there is none.
+pub fn outcome_at(outcomes: &[u8], index: usize) -> u8
+    ensures { λ r. ⌜ r ≡ getD (now (outcomes .entry)) index 0 ⌝ }
+{
+    if outcomes.len() <= index {
+        return 0; // no outcome
+    }
+    outcomes[index]
+}
+
 // The index behind the chain that the rule at an index belongs to: behind the first rule from there on
 // that is not a link, or behind the last rule.
 pub fn after_chain(rules: &[u64], index: usize) -> usize

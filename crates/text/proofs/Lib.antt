@@ -4,3 +4,4 @@ pub mod Trimming
 pub mod Spelling
 pub mod Search
 pub mod Filled
+pub mod RecordLaws

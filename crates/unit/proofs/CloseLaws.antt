@@ -21,7 +21,8 @@ use Rattle.members.specs.Given.{Rest, callWith}
 use Rattle.unit.specs.declared.Closed.{Closed}
 use Rattle.unit.specs.Closed.{memberEntry, Listed, Wrote}
 
-module _ (phase : ℕ) (rules actions markers text outcomes members : List ℕ) (rest : Rest) (behind : ℕ) (ids entries : List ℕ) (closes : Bool) where
+module _ (phase : ℕ) (rules actions markers text outcomes members : List ℕ) (rest : Rest) (behind : ℕ) (ids entries : List ℕ)
+    (closes : Bool) where
   abbrev q : Call
   q = callWith phase rules actions markers text outcomes rest
 
@@ -29,7 +30,8 @@ module _ (phase : ℕ) (rules actions markers text outcomes members : List ℕ) 
   unit = matchedIn (journalList members)
 
   pub open-still : closes ≡ false
-      → Wrote q closes unit behind ids entries (record { ids = 0; entries = 0; next = behind; disruptive = DisruptiveOutcome.Nothing }) ids entries
+      → Wrote q closes unit behind ids entries
+          (record { ids = 0; entries = 0; next = behind; disruptive = DisruptiveOutcome.Nothing }) ids entries
   open-still e =
       let n : _≡_ {A = List ℕ} (take (length ids) []) [] = take-nil (length ids) in
       let m : _≡_ {A = List DataEntry} (take (length entries / 4) []) [] = take-nil (length entries / 4) in
@@ -42,7 +44,8 @@ module _ (phase : ℕ) (rules actions markers text outcomes members : List ℕ) 
         disruptive-is = rw e;
       }
 
-  module _ (taken : closes ≡ true) (rule : Rule) (rule-is : rule ≡ getD (ruleList rules) (starterOf unit) noRule) (id : OptionU64) (id-is : id ≡ recordId rule) where
+  module _ (taken : closes ≡ true) (rule : Rule) (rule-is : rule ≡ getD (ruleList rules) (starterOf unit) noRule) (id : OptionU64)
+      (id-is : id ≡ recordId rule) where
     starter-id : id ≡ idAt q (starterOf unit)
     unfolding idAt ruleAt
     starter-id = id-is ∙ ap recordId rule-is
@@ -62,9 +65,11 @@ module _ (phase : ℕ) (rules actions markers text outcomes members : List ℕ) 
     pub closed-now : (listed written next : ℕ) (flow : FlowOutcome) (disruptive : DisruptiveOutcome) (ids′ entries′ : List ℕ)
         → listed ≡ length (take (length ids) (listOf id)) → ids′ ≡ over ids (take (length ids) (listOf id))
         → Listed (gather (memberEntry phase id (ruleList rules) outcomes) unit) entries written entries′
-        → flow ≡ lastFlow (actionsOf (actionList actions) rule) → disruptive ≡ lastDisruptive (actionsOf (actionList actions) rule)
+        → flow ≡ lastFlow (actionsOf (actionList actions) rule) → disruptive ≡ lastDisruptive
+            (actionsOf (actionList actions) rule)
         → next ≡ min (afterFlow q behind flow) (ruleCount q)
-        → Wrote q closes unit behind ids entries (record { ids = listed; entries = written; next = next; disruptive = disruptive }) ids′ entries′
+        → Wrote q closes unit behind ids entries
+            (record { ids = listed; entries = written; next = next; disruptive = disruptive }) ids′ entries′
     closed-now listed written next flow disruptive ids′ entries′ a b l f d n =
         record {
           id-count = rw (taken, ← starter-id) a;

@@ -16,7 +16,8 @@ use Rattle.reading.specs.Lists.{keep, over, gather}
 use Rattle.reading.specs.Numbers.{listOf}
 use Rattle.reading.specs.Records.{dataWords, journalFrom, journalList, matchedIn}
 use Rattle.text.proofs.Filled.{Filled, filled-start, filled-done, filled-put}
-use Rattle.members.proofs.MatchedLaws.{drop-entries, entries-end}
+use Rattle.members.proofs.MatchedLaws.{next-entries}
+use Rattle.text.proofs.RecordLaws.{entries-end}
 use Rattle.unit.specs.Closed.{fitting, Put, Listed}
 
 -- an id, none or one, written where there is a place
@@ -86,7 +87,8 @@ take-fit room w [] rest h =
     rw (none-fits (ltb w room), z)
 take-fit room w (e ∷ []) rest h = go (ltb w room) refl
   where
-    go : (b : Bool) → ltb w room ≡ b → take (room - w) (e ∷ rest) ≡ keep b (e ∷ []) ++ take (room - (w + length (keep b (e ∷ [])))) rest
+    go : (b : Bool) → ltb w room ≡ b → take (room - w) (e ∷ rest) ≡ keep b (e ∷ []) ++ take
+        (room - (w + length (keep b (e ∷ [])))) rest
     go true d =
         let z : room - w ≡ suc (room - (w + 1)) = omega (arith, ltb-true w room d) in
         rw z
@@ -98,7 +100,8 @@ take-fit room w (e ∷ f ∷ new) rest h = absurd (omega arith)
 
 -- all entries that fit in `old`; those of `todo` are still to be written, from the place w on
 abbrev pub Sofar : List DataEntry → List DataEntry → List ℕ → List ℕ → ℕ → Type 0
-Sofar all todo old cur w = Filled (dataWords (take (length old / 4) all)) (dataWords (take (length old / 4 - w) todo)) old cur (4 * w)
+Sofar all todo old cur w = Filled (dataWords (take (length old / 4) all)) (dataWords (take (length old / 4 - w) todo)) old cur
+    (4 * w)
 
 module _ (all : List DataEntry) (old : List ℕ) where
   abbrev room : ℕ
@@ -107,7 +110,8 @@ module _ (all : List DataEntry) (old : List ℕ) where
   pub sofar-start : Sofar all all old old 0
   sofar-start =
       let z : room - 0 ≡ room = omega arith in
-      let l : length (dataWords (take room all)) ≤ length old = omega (arith, length-data (take room all), length-take room all) in
+      let l : length (dataWords (take room all)) ≤ length old = omega (arith, length-data (take room all), length-take room all)
+          in
       rw z (filled-start (dataWords (take room all)) old l)
 
   pub sofar-more : (todo new rest : List DataEntry) (cur cur′ : List ℕ) (w w′ : ℕ) → todo ≡ new ++ rest → length new ≤ 1
@@ -123,12 +127,14 @@ module _ (all : List DataEntry) (old : List ℕ) where
       let f = subst (λ (l : List ℕ). Filled (dataWords (take room all)) l old cur (4 * w)) t s in
       let g = filled-put (dataWords fit) (dataWords (take room all)) (dataWords (take (room - w′) rest)) old cur (4 * w) f in
       let k : 4 * w + length (dataWords fit) ≡ 4 * w′ = omega (arith, length-data fit, n) in
-      let c : cur′ ≡ sets cur (4 * w) (dataWords fit) = p .words ∙ ap (λ (l : List DataEntry). sets cur (4 * w) (dataWords l)) same in
+      let c : cur′ ≡ sets cur (4 * w) (dataWords fit) = p .words ∙ ap (λ (l : List DataEntry). sets cur (4 * w) (dataWords l))
+          same in
       rw c (rw k at g)
 
   pub sofar-end : (cur : List ℕ) (w : ℕ) → Sofar all [] old cur w → Listed all old w cur
   sofar-end cur w s =
-      let f = subst (λ (l : List DataEntry). Filled (dataWords (take room all)) (dataWords l) old cur (4 * w)) (take-nil (room - w)) s in
+      let f = subst (λ (l : List DataEntry). Filled (dataWords (take room all)) (dataWords l) old cur (4 * w))
+          (take-nil (room - w)) s in
       let a : take (4 * w) cur ≡ dataWords (take room all) = sym (append-nil (take (4 * w) cur)) ∙ f .written in
       let l : 4 * w ≡ 4 * length (take room all)
       = sym (length-take-le (4 * w) cur (omega (arith, f .room))) ∙ (ap length a ∙ length-data (take room all)) in
@@ -146,12 +152,13 @@ module _ (members : List ℕ) (give : ℕ → List DataEntry) where
   pub data-more : (k outcome : ℕ) (e : DataEntry) → k < length members / 2
       → give (getD members (2 * k) 0) ≡ keep (eqb outcome 2) (e ∷ [])
       → dataFrom k ≡ keep (eqb (getD members (2 * k + 1) 0) 1 && eqb outcome 2) (e ∷ []) ++ dataFrom (k + 1)
-  data-more k outcome e h g = rw (drop-entries members k h) (go (eqb (getD members (2 * k + 1) 0) 1))
+  data-more k outcome e h g = rw (next-entries members k h) (go (eqb (getD members (2 * k + 1) 0) 1))
     where
       more : List ℕ
       more = matchedIn (drop (k + 1) (journalList members))
 
-      go : (b : Bool) → gather give (keep b (getD members (2 * k) 0 ∷ []) ++ more) ≡ keep (b && eqb outcome 2) (e ∷ []) ++ gather give more
+      go : (b : Bool) → gather give (keep b (getD members (2 * k) 0 ∷ []) ++ more) ≡ keep (b && eqb outcome 2) (e ∷ []) ++ gather
+          give more
       go true = rw g
       go false = refl
 

@@ -40,7 +40,8 @@ module _ (behind rules : ℕ) (q : Call) (reading : q .reading ≡ rust) (count 
     jump-to h l = rw (by true (lt-ltb behind position h)) (omega arith)
 
 -- what the callees gave, for a call with these lists
-module _ (phase : ℕ) (rules actions markers text outcomes : List ℕ) (rest : Rest) (behind n : ℕ) (count : n ≡ ruleCount (callWith phase rules actions markers text outcomes rest))
+module _ (phase : ℕ) (rules actions markers text outcomes : List ℕ) (rest : Rest) (behind n : ℕ)
+    (count : n ≡ ruleCount (callWith phase rules actions markers text outcomes rest))
     (flow : FlowOutcome) (r : ℕ) where
   abbrev q : Call
   q = callWith phase rules actions markers text outcomes rest

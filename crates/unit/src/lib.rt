@@ -43,15 +43,6 @@ fn put_id(id: OptionU64, ids: &mut [u64]) -> usize
     1
 }
 
-fn outcome_at(outcomes: &[u8], index: usize) -> u8
-    ensures { λ r. ⌜ r ≡ getD (now (outcomes .entry)) index 0 ⌝ }
-{
-    if outcomes.len() <= index {
-        return 0;
-    }
-    outcomes[index]
-}
-
 // A member's own id, else the starter's.
 fn own_or(own: OptionU64, starter: OptionU64) -> OptionU64
     ensures { λ r. ⌜ r ≡ ownOr own starter ⌝ }
@@ -123,7 +114,7 @@ fn put_entries(
         let m = index as usize;
         let own = ruleset::rule_id(ruleset::rule_at(rules, m));
         let e = data_entry(own_or(own, starter), phase, index);
-        w = put_entry(verdict, outcome_at(outcomes, m), e, w, entries);
+        w = put_entry(verdict, ruleset::outcome_at(outcomes, m), e, w, entries);
         k += 1;
     }
     w

@@ -11,7 +11,7 @@ use Rattle.reading.specs.declared.Verdict.{Verdict}
 use Rattle.reading.specs.Call.{noRule}
 use Rattle.reading.specs.Records.{ruleList}
 use Rattle.reading.specs.Walk.{verdictBy, chainRest}
-use Rattle.ruleset.proofs.RecordLaws.{length-rules, rule-is}
+use Rattle.text.proofs.RecordLaws.{length-rules, rule-is}
 use Rattle.visit.specs.declared.State.{State}
 use Rattle.visit.specs.declared.Visited.{Visited}
 use Rattle.visit.specs.Found.{entryBy, passed, foundBy, foundAt}
@@ -27,8 +27,10 @@ module _ (removed : Bool) (outcome : ℕ) (kept : removed ≡ false) where
   pub is-matched : (outcome ≡ 0 → ⊥) → (outcome ≡ 3 → ⊥) → Verdict.Matched ≡ cond removed Verdict.Removed (verdictBy outcome)
   is-matched e f = rw (kept, ne-eqb outcome 0 e, ne-eqb outcome 3 f)
 
-module _ (words : List ℕ) (at : State) (visits : ℕ) (found : Verdict) (first : ℕ) (first-is : first ≡ entryBy at visits) (r : Visited) where
-  pub behind : length words / 5 ≤ at .next → r ≡ passed found (at .next) (at .chained) first → r ≡ foundAt (ruleList words) at visits found
+module _ (words : List ℕ) (at : State) (visits : ℕ) (found : Verdict) (first : ℕ) (first-is : first ≡ entryBy at visits)
+    (r : Visited) where
+  pub behind : length words / 5 ≤ at .next → r ≡ passed found (at .next) (at .chained) first → r ≡ foundAt (ruleList words) at
+      visits found
   unfolding foundAt
   behind h e =
       let z : length (ruleList words) ≤ at .next = omega (arith, length-rules words) in
@@ -45,17 +47,21 @@ module _ (words : List ℕ) (at : State) (visits : ℕ) (found : Verdict) (first
         let z : at .next < length (ruleList words) = omega (arith, length-rules words) in
         rw (lt-ltb (at .next) (length (ruleList words)) z, rule-is words (at .next) noRule h, l, e, first-is)
 
-    pub missed : found ≡ Verdict.Missed → (n : ℕ) → n ≡ rest → r ≡ passed found n false first → r ≡ foundAt (ruleList words) at visits found
+    pub missed : found ≡ Verdict.Missed → (n : ℕ) → n ≡ rest → r ≡ passed found n false first → r ≡ foundAt (ruleList words) at
+        visits found
     missed f n m e = there (eqb (getD words (5 * at .next + 2) 0) 1) refl (e ∙ rw (f, m))
 
-    pub failed : found ≡ Verdict.Error → r ≡ passed found (at .next + 1) (at .chained) first → r ≡ foundAt (ruleList words) at visits found
+    pub failed : found ≡ Verdict.Error → r ≡ passed found (at .next + 1) (at .chained) first → r ≡ foundAt (ruleList words) at
+        visits found
     failed f e = there (eqb (getD words (5 * at .next + 2) 0) 1) refl (e ∙ rw f)
 
     module _ (link : getD words (5 * at .next + 2) 0 ≡ 1) where
-      pub waits : found ≡ Verdict.Matched → r ≡ passed found (at .next + 1) true first → r ≡ foundAt (ruleList words) at visits found
+      pub waits : found ≡ Verdict.Matched → r ≡ passed found (at .next + 1) true first → r ≡ foundAt (ruleList words) at visits
+          found
       waits f e = there true (eq-eqb (getD words (5 * at .next + 2) 0) 1 link) (e ∙ rw f)
 
-      pub breaks : found ≡ Verdict.Removed → (n : ℕ) → n ≡ rest → r ≡ passed found n false first → r ≡ foundAt (ruleList words) at visits found
+      pub breaks : found ≡ Verdict.Removed → (n : ℕ) → n ≡ rest → r ≡ passed found n false first → r ≡ foundAt (ruleList words) at
+          visits found
       breaks f n m e = there true (eq-eqb (getD words (5 * at .next + 2) 0) 1 link) (e ∙ rw (f, m))
 
     module _ (plain : getD words (5 * at .next + 2) 0 ≡ 1 → ⊥) where
@@ -63,5 +69,6 @@ module _ (words : List ℕ) (at : State) (visits : ℕ) (found : Verdict) (first
           → r ≡ foundAt (ruleList words) at visits found
       closes f e = there false (ne-eqb (getD words (5 * at .next + 2) 0) 1 plain) (e rest (at .chained) ∙ rw f)
 
-      pub passes : found ≡ Verdict.Removed → r ≡ passed found (at .next + 1) (at .chained) first → r ≡ foundAt (ruleList words) at visits found
+      pub passes : found ≡ Verdict.Removed → r ≡ passed found (at .next + 1) (at .chained) first → r ≡ foundAt (ruleList words) at
+          visits found
       passes f e = there false (ne-eqb (getD words (5 * at .next + 2) 0) 1 plain) (e ∙ rw f)

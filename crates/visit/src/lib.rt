@@ -44,15 +44,6 @@ fn verdict(removed: bool, outcome: u8) -> Verdict
     Verdict::Matched
 }
 
-fn outcome_at(outcomes: &[u8], index: usize) -> u8
-    ensures { λ r. ⌜ r ≡ getD (now (outcomes .entry)) index 0 ⌝ }
-{
-    if outcomes.len() <= index {
-        return 0;
-    }
-    outcomes[index]
-}
-
 // What is found of the rule at an index, under the first `count` held ranges.
 pub fn verdict_at<'a>(
     rules: &[u64],
@@ -67,7 +58,7 @@ pub fn verdict_at<'a>(
 {
     let id = ruleset::rule_id(ruleset::rule_at(rules, index));
     let removed = held::is_removed(starts, ends, count, id);
-    verdict(removed, outcome_at(outcomes, index))
+    verdict(removed, ruleset::outcome_at(outcomes, index))
 }
 
 // The number of a verdict in the journal.

@@ -1,7 +1,7 @@
 -- `actions::action_at` meets its contract.
 use borrow.Author.Needs.{needs}
 use mathlib.Core.Path.{sym}
-use Rattle.actions.proofs.RecordLaws.{action-is, action-behind}
+use Rattle.text.proofs.RecordLaws.{action-is, action-behind}
 use Rattle.actions.proofs.action_at.Statement.{statement}
 use Rattle.actions.proofs.action_at.Tie as tie
 

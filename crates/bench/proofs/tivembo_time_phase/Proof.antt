@@ -8,11 +8,13 @@ use Rattle.bench.proofs.tivembo_time_phase.Statement.{statement}
 use Rattle.bench.proofs.tivembo_time_phase.Tie as tie
 
 abbrev Inv-loop : tie.InvT-loop
-Inv-loop repeat phase mode status rules actions markers text outcomes starts ends ids₀ entries₀ journal₀ t sums₀ k₀ ids entries journal sums k =
+Inv-loop repeat phase mode status rules actions markers text outcomes starts ends ids₀ entries₀ journal₀ t sums₀ k₀ ids entries
+    journal sums k =
     (k ≤ repeat) × (length ids ≡ length ids₀) × (length entries ≡ length entries₀) × (length journal ≡ length journal₀)
 
 abbrev μ-loop : tie.MeasureT-loop
-μ-loop repeat phase mode status rules actions markers text outcomes starts ends ids₀ entries₀ journal₀ t sums₀ k₀ ids entries journal sums k =
+μ-loop repeat phase mode status rules actions markers text outcomes starts ends ids₀ entries₀ journal₀ t sums₀ k₀ ids entries
+    journal sums k =
     repeat - k
 
 with-ranges-requires : tie.Need-with-ranges-requires Inv-loop μ-loop
@@ -32,11 +34,13 @@ add-k c =
     omega (
       arith,
       c .before .before .before .before .before .before .before .before .before .before .before .loop-test .taken,
-      c .before .before .before .before .before .before .before .before .before .before .before .before .before .before .before .before .before .before .before .before .before .before .before .before .fits .repeat,
+      c .before .before .before .before .before .before .before .before .before .before .before .before .before .before .before
+          .before .before .before .before .before .before .before .before .before .fits .repeat,
     )
 
 loop-less : tie.Need-loop-less Inv-loop μ-loop
-loop-less c = omega (arith, c .before .before .before .before .before .before .before .before .before .before .before .loop-test .taken)
+loop-less c = omega (arith, c .before .before .before .before .before .before .before .before .before .before .before .loop-test
+    .taken)
 
 loop-again : tie.Need-loop-again Inv-loop μ-loop
 loop-again c =

@@ -8,7 +8,7 @@ use Rattle.reading.specs.Lists.{any}
 use Rattle.reading.specs.Records.{actionList}
 use Rattle.reading.specs.Walk.{noAction}
 use Rattle.reading.specs.Refusals.{badAction}
-use Rattle.actions.proofs.RecordLaws.{length-actions}
+use Rattle.text.proofs.RecordLaws.{length-actions}
 use Rattle.checks.proofs.AnyLaws.{any-found, any-passed, any-end}
 use Rattle.checks.proofs.any_bad_action.Statement.{statement}
 use Rattle.checks.proofs.any_bad_action.Tie as tie

@@ -7,7 +7,7 @@ use lib.ListN.{length, drop}
 use Rattle.reading.specs.Lists.{any}
 use Rattle.reading.specs.Records.{markerFrom, markerList}
 use Rattle.reading.specs.Refusals.{badMarker}
-use Rattle.ruleset.proofs.RecordLaws.{length-markers, marker-is}
+use Rattle.text.proofs.RecordLaws.{length-markers, marker-is}
 use Rattle.checks.proofs.AnyLaws.{any-found, any-passed, any-end}
 use Rattle.checks.proofs.any_bad_marker.Statement.{statement}
 use Rattle.checks.proofs.any_bad_marker.Tie as tie

@@ -10,7 +10,8 @@ use Rattle.coded.proofs.rule_changes.Statement.{statement}
 use Rattle.coded.proofs.rule_changes.Tie as tie
 
 abbrev Inv-loop : tie.InvT-loop
-Inv-loop codes first end i₀ i = (first ≤ i) × (i ≤ end) × (any isChange (slice i end codes) ≡ any isChange (slice first end codes))
+Inv-loop codes first end i₀ i = (first ≤ i) × (i ≤ end) ×
+    (any isChange (slice i end codes) ≡ any isChange (slice first end codes))
 
 abbrev μ-loop : tie.MeasureT-loop
 μ-loop codes first end i₀ i = end - i
@@ -47,7 +48,8 @@ loop-again c =
     let l = c .before .before .before in
     let codes = l .before .before .before .args .codes .now in
     let end : l .before .codes-end .result ≤ length codes = omega (arith, l .before .codes-end .ensures) in
-    let more = changes-more codes (l .loop .i) (l .before .codes-end .result) _ (omega arith) end (l .loop .inv .2) (c .if1 .left) in
+    let more = changes-more codes (l .loop .i) (l .before .codes-end .result) _ (omega arith) end (l .loop .inv .2) (c .if1 .left)
+        in
     (omega arith, omega arith, more)
 
 returns-2 : tie.Need-returns-2 Inv-loop μ-loop

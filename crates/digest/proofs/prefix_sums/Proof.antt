@@ -64,7 +64,8 @@ same-length : tie.Need-same-length Inv-loop μ-loop
 same-length c = c .before .loop .inv .kept ∙ length-set (c .before .before .before .before .args .sums .now) 0 0
 
 returns : tie.Need-returns Inv-loop μ-loop
-returns c = sofar-end _ _ _ (room (c .before .before .before .before)) _ _ (c .before .loop .i) (omega arith) (c .before .loop .inv)
+returns c = sofar-end _ _ _ (room (c .before .before .before .before)) _ _ (c .before .loop .i) (omega arith)
+    (c .before .loop .inv)
 
 pub prefix-sums-spec : {M : Type 1} → statement M
 prefix-sums-spec =

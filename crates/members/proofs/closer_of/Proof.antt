@@ -13,7 +13,8 @@ use Rattle.members.proofs.closer_of.Statement.{statement}
 use Rattle.members.proofs.closer_of.Tie as tie
 
 abbrev Inv-loop : tie.InvT-loop
-Inv-loop entries k₀ k = (closerOf (matchedIn (take k (journalList entries))) ≡ closerOf (matchedIn (journalList entries))) × (k ≤ length entries / 2)
+Inv-loop entries k₀ k = (closerOf (matchedIn (take k (journalList entries))) ≡ closerOf (matchedIn (journalList entries))) ×
+    (k ≤ length entries / 2)
 
 abbrev μ-loop : tie.MeasureT-loop
 μ-loop entries k₀ k = k
@@ -49,7 +50,9 @@ returns : tie.Need-returns Inv-loop μ-loop
 returns c = let k = c .before .before .before .before .loop .k in
     let l : k - 1 + 1 ≡ k = omega (arith, c .before .before .before .loop-test .taken) in
     let w = now (c .before .before .before .before .before .args .entries) in
-    let y = closer-yes w (k - 1) (omega (arith, c .before .before .before .loop-test .taken, c .before .before .before .before .loop .inv .1)) (c .before .if1 .taken) in
+    let y = closer-yes w (k - 1)
+        (omega (arith, c .before .before .before .loop-test .taken, c .before .before .before .before .loop .inv .1))
+        (c .before .if1 .taken) in
     sym (rw l at y) ∙ c .before .before .before .before .loop .inv .0
 
 loop-less : tie.Need-loop-less Inv-loop μ-loop
@@ -59,12 +62,14 @@ loop-again : tie.Need-loop-again Inv-loop μ-loop
 loop-again c = let k = c .before .before .before .loop .k in
     let l : k - 1 + 1 ≡ k = omega (arith, c .before .before .loop-test .taken) in
     let w = now (c .before .before .before .before .args .entries) in
-    let y = closer-no w (k - 1) (omega (arith, c .before .before .loop-test .taken, c .before .before .before .loop .inv .1)) (c .if1 .left) in
+    let y = closer-no w (k - 1) (omega (arith, c .before .before .loop-test .taken, c .before .before .before .loop .inv .1))
+        (c .if1 .left) in
     ((rw l at y) ∙ c .before .before .before .loop .inv .0, omega (arith, c .before .before .before .loop .inv .1))
 
 returns-2 : tie.Need-returns-2 Inv-loop μ-loop
 returns-2 c = let z : c .before .loop .k ≡ 0 = omega (arith, c .loop-test .left) in
-    sym (ap (λ (n : ℕ). closerOf (matchedIn (take n (journalList (now (c .before .before .args .entries)))))) z) ∙ c .before .loop .inv .0
+    sym (ap (λ (n : ℕ). closerOf (matchedIn (take n (journalList (now (c .before .before .args .entries)))))) z) ∙ c .before .loop
+        .inv .0
 
 pub closer-of-spec : {M : Type 1} → statement M
 closer-of-spec =

@@ -41,7 +41,10 @@ shared-slice-read-result : tie.Need-shared-slice-read-result Inv-loop μ-loop
 shared-slice-read-result c = search needs
 
 returns : tie.Need-returns Inv-loop μ-loop
-returns c = ap starterOf (sym (matched-yes (now (c .before .before .before .before .before .args .entries)) (c .before .before .before .before .loop .k) (c .before .before .before .loop-test .taken) (c .before .if1 .taken))) ∙ c .before .before .before .before .loop .inv
+returns c = ap starterOf
+    (sym (matched-yes (now (c .before .before .before .before .before .args .entries))
+    (c .before .before .before .before .loop .k) (c .before .before .before .loop-test .taken) (c .before .if1 .taken))) ∙ c
+    .before .before .before .before .loop .inv
 
 add-k : tie.Need-add-k Inv-loop μ-loop
 add-k c = search needs
@@ -50,10 +53,13 @@ loop-less : tie.Need-loop-less Inv-loop μ-loop
 loop-less c = search needs
 
 loop-again : tie.Need-loop-again Inv-loop μ-loop
-loop-again c = ap starterOf (sym (matched-no (now (c .before .before .before .before .args .entries)) (c .before .before .before .loop .k) (c .before .before .loop-test .taken) (c .if1 .left))) ∙ c .before .before .before .loop .inv
+loop-again c = ap starterOf
+    (sym (matched-no (now (c .before .before .before .before .args .entries)) (c .before .before .before .loop .k)
+    (c .before .before .loop-test .taken) (c .if1 .left))) ∙ c .before .before .before .loop .inv
 
 returns-2 : tie.Need-returns-2 Inv-loop μ-loop
-returns-2 c = ap starterOf (sym (matched-end (now (c .before .before .args .entries)) (c .before .loop .k) (c .loop-test .left))) ∙ c .before .loop .inv
+returns-2 c = ap starterOf (sym (matched-end (now (c .before .before .args .entries)) (c .before .loop .k) (c .loop-test .left)))
+    ∙ c .before .loop .inv
 
 pub starter-of-spec : {M : Type 1} → statement M
 starter-of-spec =

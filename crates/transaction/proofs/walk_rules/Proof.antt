@@ -21,7 +21,9 @@ use Rattle.phase.specs.Phase.{callOf}
 use Rattle.phase.specs.Walked.{fresh, isGoing, Ready}
 use Rattle.phase.proofs.Found.{found-law, mode-law}
 use Rattle.phase.proofs.Progress.{Sofar, sofar-none, sofar-end, few-ranges, journal-same, ids-same, entries-same}
-use Rattle.phase.proofs.Turn.{journal-start, journal-next, journal-free, ids-start, entries-start, part-start, part-end, listed-room, written-room, journal-kept, ids-kept, entries-kept, next-more, changed-yes, changed-no, sofar-last, sofar-more}
+use Rattle.phase.proofs.Turn.{Turning, journal-start, journal-next, journal-free, ids-start, entries-start, part-start, part-end}
+use Rattle.phase.proofs.Turn.{listed-room, written-room, journal-kept, ids-kept, entries-kept, next-more, changed-yes, changed-no}
+use Rattle.phase.proofs.Turn.{sofar-last, sofar-more}
 use Rattle.transaction.proofs.walk_rules.Statement.{statement}
 use Rattle.transaction.proofs.walk_rules.Tie as tie
 
@@ -37,11 +39,15 @@ restOf q = record {
 }
 
 abbrev Inv-loop : tie.InvT-loop
-Inv-loop listed-before written-before phase mode status rules actions markers text outcomes codes ids₀ entries₀ journal₀ ruleset-mode n c₀ s₀ visits₀ listed₀ written₀ ids entries journal c s visits listed written = let t = fresh c₀ listed₀ written₀ in
-    Sofar (callOf phase mode status rules actions markers text outcomes t ids₀ entries₀ journal₀) t ids₀ entries₀ journal₀ ids entries journal c s visits listed written
+Inv-loop listed-before written-before phase mode status rules actions markers text outcomes codes ids₀ entries₀ journal₀
+    ruleset-mode n c₀ s₀ visits₀ listed₀ written₀ ids entries journal c s visits listed written = let t = fresh c₀ listed₀
+    written₀ in
+    Sofar (callOf phase mode status rules actions markers text outcomes t ids₀ entries₀ journal₀) t ids₀ entries₀ journal₀ ids
+        entries journal c s visits listed written
 
 abbrev μ-loop : tie.MeasureT-loop
-μ-loop listed-before written-before phase mode status rules actions markers text outcomes codes ids₀ entries₀ journal₀ ruleset-mode n c₀ s₀ visits₀ listed₀ written₀ ids entries journal c s visits listed written = length rules / 5 - s .next
+μ-loop listed-before written-before phase mode status rules actions markers text outcomes codes ids₀ entries₀ journal₀
+    ruleset-mode n c₀ s₀ visits₀ listed₀ written₀ ids entries journal c s visits listed written = length rules / 5 - s .next
 
 -- earlier places, seen from later ones
 abbrev entered : tie.At-loop Inv-loop μ-loop → tie.Start Inv-loop μ-loop
@@ -69,190 +75,183 @@ T c = fresh (entered c .args .held) (entered c .args .listed-before) (entered c 
 abbrev Q : (c : tie.At-loop Inv-loop μ-loop) → Call
 Q c =
     let a = entered c .args in
-    callOf (a .phase) (a .mode) (a .status) (now (a .rules)) (now (a .actions)) (now (a .markers)) (now (a .text)) (now (a .outcomes)) (T c) (now (a .ids)) (now (a .entries)) (now (a .journal))
+    callOf (a .phase) (a .mode) (a .status) (now (a .rules)) (now (a .actions)) (now (a .markers)) (now (a .text))
+        (now (a .outcomes)) (T c) (now (a .ids)) (now (a .entries)) (now (a .journal))
 
 ready : (c : tie.At-loop Inv-loop μ-loop)
-    → Ready (Q c) (T c) (now (entered c .args .codes)) (now (entered c .args .ids)) (now (entered c .args .entries)) (now (entered c .args .journal))
+    → Ready (Q c) (T c) (now (entered c .args .codes)) (now (entered c .args .ids)) (now (entered c .args .entries))
+        (now (entered c .args .journal))
 ready c = entered c .pre
 
 inside : (c : tie.Then1 Inv-loop μ-loop) → c .before .before .loop .s .next < ruleCount (Q (c .before .before))
 inside c = omega (arith, c .if1 .taken, length-rules (now (entered (c .before .before) .args .rules)))
 
-found-is : (c : tie.After-verdict-at Inv-loop μ-loop) → c .verdict-at .result ≡ verdictAt (Q (c .before .before .before .before .before .before)) (controlsOf (c .before .before .before .before .before .before .loop .c)) (c .before .before .before .before .before .before .loop .s .next)
-found-is c =
-    found-law (Q (c .before .before .before .before .before .before)) (c .before .before .before .before .before .before .loop .c) (c .before .before .before .before .before .before .loop .s .next) (c .verdict-at .result)
-    (few-ranges (Q (c .before .before .before .before .before .before)) (T (c .before .before .before .before .before .before)) (now (entered (c .before .before .before .before .before .before) .args .codes)) (now (entered (c .before .before .before .before .before .before) .args .ids)) (now (entered (c .before .before .before .before .before .before) .args .entries)) (now (entered (c .before .before .before .before .before .before) .args .journal))
-    (ready (c .before .before .before .before .before .before)) (c .before .before .before .before .before .before .loop .ids) (c .before .before .before .before .before .before .loop .entries) (c .before .before .before .before .before .before .loop .journal) (c .before .before .before .before .before .before .loop .c) (c .before .before .before .before .before .before .loop .s) (c .before .before .before .before .before .before .loop .visits)
-    (c .before .before .before .before .before .before .loop .listed) (c .before .before .before .before .before .before .loop .written) (c .before .before .before .before .before .before .loop .inv)) (c .verdict-at .ensures)
-
--- the lists at the head of a turn
+-- the lists and the ranges at the head of a turn
 journal-as-lent : (c : tie.At-loop Inv-loop μ-loop) → length (c .loop .journal) ≡ length (now (entered c .args .journal))
 journal-as-lent c =
-    journal-same (Q (c)) (T (c)) (now (entered c .args .codes)) (now (entered c .args .ids)) (now (entered c .args .entries)) (now (entered c .args .journal))
-    (ready (c))
-    (c .loop .ids) (c .loop .entries) (c .loop .journal) (c .loop .c) (c .loop .s) (c .loop .visits)
-    (c .loop .listed) (c .loop .written) (c .loop .inv)
+    journal-same (Q c) (T c) (now (entered c .args .codes)) (now (entered c .args .ids)) (now (entered c .args .entries))
+        (now (entered c .args .journal)) (ready c)
+    (c .loop .ids) (c .loop .entries) (c .loop .journal) (c .loop .c) (c .loop .s) (c .loop .visits) (c .loop .listed)
+        (c .loop .written) (c .loop .inv)
 
 ids-as-lent : (c : tie.At-loop Inv-loop μ-loop) → length (c .loop .ids) ≡ length (now (entered c .args .ids))
 ids-as-lent c =
-    ids-same (Q (c)) (T (c)) (now (entered c .args .codes)) (now (entered c .args .ids)) (now (entered c .args .entries)) (now (entered c .args .journal))
-    (ready (c))
-    (c .loop .ids) (c .loop .entries) (c .loop .journal) (c .loop .c) (c .loop .s) (c .loop .visits)
-    (c .loop .listed) (c .loop .written) (c .loop .inv)
+    ids-same (Q c) (T c) (now (entered c .args .codes)) (now (entered c .args .ids)) (now (entered c .args .entries))
+        (now (entered c .args .journal)) (ready c)
+    (c .loop .ids) (c .loop .entries) (c .loop .journal) (c .loop .c) (c .loop .s) (c .loop .visits) (c .loop .listed)
+        (c .loop .written) (c .loop .inv)
 
 entries-as-lent : (c : tie.At-loop Inv-loop μ-loop) → length (c .loop .entries) ≡ length (now (entered c .args .entries))
 entries-as-lent c =
-    entries-same (Q (c)) (T (c)) (now (entered c .args .codes)) (now (entered c .args .ids)) (now (entered c .args .entries)) (now (entered c .args .journal))
-    (ready (c))
-    (c .loop .ids) (c .loop .entries) (c .loop .journal) (c .loop .c) (c .loop .s) (c .loop .visits)
-    (c .loop .listed) (c .loop .written) (c .loop .inv)
+    entries-same (Q c) (T c) (now (entered c .args .codes)) (now (entered c .args .ids)) (now (entered c .args .entries))
+        (now (entered c .args .journal)) (ready c)
+    (c .loop .ids) (c .loop .entries) (c .loop .journal) (c .loop .c) (c .loop .s) (c .loop .visits) (c .loop .listed)
+        (c .loop .written) (c .loop .inv)
+
+ranges-fit : (c : tie.At-loop Inv-loop μ-loop) → c .loop .c .ranges ≤ 256
+ranges-fit c =
+    few-ranges (Q c) (T c) (now (entered c .args .codes)) (now (entered c .args .ids)) (now (entered c .args .entries))
+        (now (entered c .args .journal)) (ready c)
+    (c .loop .ids) (c .loop .entries) (c .loop .journal) (c .loop .c) (c .loop .s) (c .loop .visits) (c .loop .listed)
+        (c .loop .written) (c .loop .inv)
+
+found-is : (c : tie.After-verdict-at Inv-loop μ-loop) → c .verdict-at .result ≡ verdictAt
+    (Q (c .before .before .before .before .before .before))
+    (controlsOf (c .before .before .before .before .before .before .loop .c))
+    (c .before .before .before .before .before .before .loop .s .next)
+found-is c =
+    found-law (Q (c .before .before .before .before .before .before)) (c .before .before .before .before .before .before .loop .c)
+        (c .before .before .before .before .before .before .loop .s .next) (c .verdict-at .result)
+        (ranges-fit (c .before .before .before .before .before .before)) (c .verdict-at .ensures)
+
+-- what is known where the turn's rule has been visited
+turn : (c : tie.After-visit Inv-loop μ-loop) → Turning
+turn c = record {
+  q = Q (head c);
+  t = T (head c);
+  codes = now (entered (head c) .args .codes);
+  ids₀ = now (entered (head c) .args .ids);
+  entries₀ = now (entered (head c) .args .entries);
+  journal₀ = now (entered (head c) .args .journal);
+  ready = ready (head c);
+  reading = refl;
+  ids = head c .loop .ids;
+  entries = head c .loop .entries;
+  journal = head c .loop .journal;
+  c = head c .loop .c;
+  s = head c .loop .s;
+  visits = head c .loop .visits;
+  listed = head c .loop .listed;
+  written = head c .loop .written;
+  so = head c .loop .inv;
+  inside = inside (c .before .before .before .before .before);
+  found = c .before .verdict-at .result;
+  found-is = found-is (c .before);
+  w = c .visit .result;
+  w-is = c .visit .ensures;
+}
 
 -- room in the lists
-journal-from : (c : tie.After-visit Inv-loop μ-loop) → 2 * head c .loop .visits ≤ length (head c .loop .journal)
-journal-from c =
-    journal-start (Q (head c)) (T (head c)) (now (entered ((head c)) .args .codes)) (now (entered ((head c)) .args .ids)) (now (entered ((head c)) .args .entries)) (now (entered ((head c)) .args .journal))
-    (ready (head c)) refl
-    (head c .loop .ids) (head c .loop .entries) (head c .loop .journal) (head c .loop .c) (head c .loop .s) (head c .loop .visits)
-    (head c .loop .listed) (head c .loop .written) (head c .loop .inv) (inside (c .before .before .before .before .before))
-    (c .before .verdict-at .result) (found-is (c .before)) (c .visit .result) (c .visit .ensures)
-
-journal-to : (c : tie.After-visit Inv-loop μ-loop) → 2 * head c .loop .visits + 2 ≤ length (head c .loop .journal)
-journal-to c =
-    journal-next (Q (head c)) (T (head c)) (now (entered ((head c)) .args .codes)) (now (entered ((head c)) .args .ids)) (now (entered ((head c)) .args .entries)) (now (entered ((head c)) .args .journal))
-    (ready (head c)) refl
-    (head c .loop .ids) (head c .loop .entries) (head c .loop .journal) (head c .loop .c) (head c .loop .s) (head c .loop .visits)
-    (head c .loop .listed) (head c .loop .written) (head c .loop .inv) (inside (c .before .before .before .before .before))
-    (c .before .verdict-at .result) (found-is (c .before)) (c .visit .result) (c .visit .ensures)
-
-ids-from : (c : tie.After-visit Inv-loop μ-loop) → head c .loop .listed ≤ length (head c .loop .ids)
-ids-from c =
-    ids-start (Q (head c)) (T (head c)) (now (entered ((head c)) .args .codes)) (now (entered ((head c)) .args .ids)) (now (entered ((head c)) .args .entries)) (now (entered ((head c)) .args .journal))
-    (ready (head c)) refl
-    (head c .loop .ids) (head c .loop .entries) (head c .loop .journal) (head c .loop .c) (head c .loop .s) (head c .loop .visits)
-    (head c .loop .listed) (head c .loop .written) (head c .loop .inv) (inside (c .before .before .before .before .before))
-    (c .before .verdict-at .result) (found-is (c .before)) (c .visit .result) (c .visit .ensures)
-
-entries-from : (c : tie.After-visit Inv-loop μ-loop) → 4 * head c .loop .written ≤ length (head c .loop .entries)
-entries-from c =
-    entries-start (Q (head c)) (T (head c)) (now (entered ((head c)) .args .codes)) (now (entered ((head c)) .args .ids)) (now (entered ((head c)) .args .entries)) (now (entered ((head c)) .args .journal))
-    (ready (head c)) refl
-    (head c .loop .ids) (head c .loop .entries) (head c .loop .journal) (head c .loop .c) (head c .loop .s) (head c .loop .visits)
-    (head c .loop .listed) (head c .loop .written) (head c .loop .inv) (inside (c .before .before .before .before .before))
-    (c .before .verdict-at .result) (found-is (c .before)) (c .visit .result) (c .visit .ensures)
-
 journal-small : (c : tie.After-visit Inv-loop μ-loop) → 8 * (2 * head c .loop .visits + 2) < 2 ^ 64
 journal-small c =
-    omega (arith, journal-to c, journal-as-lent (head c), (entered ((head c)) .good .1 .1 .1 .1 .1 .1 .1 .1 .1 .1 .1 .1 .1 .1 .0 .1))
+    omega (arith, journal-next (turn c), journal-as-lent (head c),
+        (entered (head c) .good .1 .1 .1 .1 .1 .1 .1 .1 .1 .1 .1 .1 .1 .1 .0 .1))
 
 ids-small : (c : tie.After-visit Inv-loop μ-loop) → 8 * head c .loop .listed < 2 ^ 64
 ids-small c =
-    omega (arith, ids-from c, ids-as-lent (head c), (entered ((head c)) .good .1 .1 .1 .1 .1 .1 .1 .1 .1 .1 .1 .1 .0 .1))
+    omega (arith, ids-start (turn c), ids-as-lent (head c), (entered (head c) .good .1 .1 .1 .1 .1 .1 .1 .1 .1 .1 .1 .1 .0 .1))
 
 entries-small : (c : tie.After-visit Inv-loop μ-loop) → 8 * (4 * head c .loop .written) < 2 ^ 64
 entries-small c =
-    omega (arith, entries-from c, entries-as-lent (head c), (entered ((head c)) .good .1 .1 .1 .1 .1 .1 .1 .1 .1 .1 .1 .1 .1 .0 .1))
+    omega (arith, entries-start (turn c), entries-as-lent (head c),
+        (entered (head c) .good .1 .1 .1 .1 .1 .1 .1 .1 .1 .1 .1 .1 .1 .0 .1))
 
 -- the part of the journal that the unit's functions are lent
-unit-from : (c : tie.After-put-visit Inv-loop μ-loop) → 2 * visited c .visit .result .after .first ≤ 2 * (head ((visited c)) .loop .visits + 1)
+unit-from : (c : tie.After-put-visit Inv-loop μ-loop) → 2 * visited c .visit .result .after .first ≤ 2 *
+    (head (visited c) .loop .visits + 1)
 unit-from c =
-    part-start (Q (head ((visited c)))) (T (head ((visited c)))) (now (entered ((head ((visited c)))) .args .codes)) (now (entered ((head ((visited c)))) .args .ids)) (now (entered ((head ((visited c)))) .args .entries)) (now (entered ((head ((visited c)))) .args .journal))
-    (ready (head ((visited c)))) refl
-    (head ((visited c)) .loop .ids) (head ((visited c)) .loop .entries) (head ((visited c)) .loop .journal) (head ((visited c)) .loop .c) (head ((visited c)) .loop .s) (head ((visited c)) .loop .visits)
-    (head ((visited c)) .loop .listed) (head ((visited c)) .loop .written) (head ((visited c)) .loop .inv) (inside ((visited c) .before .before .before .before .before))
-    ((visited c) .before .verdict-at .result) (found-is ((visited c) .before)) (visited c .visit .result) (visited c .visit .ensures)
-    (c .put-visit .last .1 .1 .0) (c .put-visit .ensures)
+    part-start (turn (visited c)) (c .put-visit .last .1 .1 .0) (c .put-visit .ensures)
 
-unit-to : (c : tie.After-put-visit Inv-loop μ-loop) → 2 * (head ((visited c)) .loop .visits + 1)
-    ≤ length (take (2 * head ((visited c)) .loop .visits) (head ((visited c)) .loop .journal) ++ (c .put-visit .last .1 .1 .0 ++ drop (length (head ((visited c)) .loop .journal) - 2 * head ((visited c)) .loop .visits) (drop (2 * head ((visited c)) .loop .visits) (head ((visited c)) .loop .journal))))
+unit-to : (c : tie.After-put-visit Inv-loop μ-loop) → 2 * (head (visited c) .loop .visits + 1)
+    ≤ length (take (2 * head (visited c) .loop .visits) (head (visited c) .loop .journal) ++
+        (c .put-visit .last .1 .1 .0 ++ drop (length (head (visited c) .loop .journal) - 2 * head (visited c) .loop .visits)
+        (drop (2 * head (visited c) .loop .visits) (head (visited c) .loop .journal))))
 unit-to c =
-    part-end (Q (head ((visited c)))) (T (head ((visited c)))) (now (entered ((head ((visited c)))) .args .codes)) (now (entered ((head ((visited c)))) .args .ids)) (now (entered ((head ((visited c)))) .args .entries)) (now (entered ((head ((visited c)))) .args .journal))
-    (ready (head ((visited c)))) refl
-    (head ((visited c)) .loop .ids) (head ((visited c)) .loop .entries) (head ((visited c)) .loop .journal) (head ((visited c)) .loop .c) (head ((visited c)) .loop .s) (head ((visited c)) .loop .visits)
-    (head ((visited c)) .loop .listed) (head ((visited c)) .loop .written) (head ((visited c)) .loop .inv) (inside ((visited c) .before .before .before .before .before))
-    ((visited c) .before .verdict-at .result) (found-is ((visited c) .before)) (visited c .visit .result) (visited c .visit .ensures)
-    (c .put-visit .last .1 .1 .0) (c .put-visit .ensures)
+    part-end (turn (visited c)) (c .put-visit .last .1 .1 .0) (c .put-visit .ensures)
 
 unit-small : (c : tie.After-put-visit Inv-loop μ-loop) → 8 * (2 * visited c .visit .result .after .first) < 2 ^ 64
 unit-small c =
     omega (arith, unit-from c, journal-small (visited c))
 
 -- what is in use after the turn
-listed-small : (c : tie.After-close-unit Inv-loop μ-loop) → head ((visited ((recorded c)))) .loop .listed + c .close-unit .result .ids < 2 ^ 64
+listed-small : (c : tie.After-close-unit Inv-loop μ-loop) → head (visited (recorded c)) .loop .listed + c .close-unit .result .ids
+    < 2 ^ 64
 listed-small c =
-    omega (
-      arith,
-      listed-room (Q (head ((visited ((recorded c)))))) (T (head ((visited ((recorded c)))))) (now (entered ((head ((visited ((recorded c)))))) .args .codes)) (now (entered ((head ((visited ((recorded c)))))) .args .ids)) (now (entered ((head ((visited ((recorded c)))))) .args .entries)) (now (entered ((head ((visited ((recorded c)))))) .args .journal))
-          (ready (head ((visited ((recorded c)))))) refl
-          (head ((visited ((recorded c)))) .loop .ids) (head ((visited ((recorded c)))) .loop .entries) (head ((visited ((recorded c)))) .loop .journal) (head ((visited ((recorded c)))) .loop .c) (head ((visited ((recorded c)))) .loop .s) (head ((visited ((recorded c)))) .loop .visits)
-          (head ((visited ((recorded c)))) .loop .listed) (head ((visited ((recorded c)))) .loop .written) (head ((visited ((recorded c)))) .loop .inv) (inside ((visited ((recorded c))) .before .before .before .before .before))
-          ((visited ((recorded c))) .before .verdict-at .result) (found-is ((visited ((recorded c))) .before)) (visited ((recorded c)) .visit .result) (visited ((recorded c)) .visit .ensures)
-          (recorded c .put-visit .last .1 .1 .0) (recorded c .put-visit .ensures)
-          (c .close-unit .result) (c .close-unit .last .1 .1 .1 .1 .1 .1 .1 .1 .1 .0) (c .close-unit .last .1 .1 .1 .1 .1 .1 .1 .1 .1 .1 .0)
-          (c .close-unit .ensures (restOf (Q (head ((visited ((recorded c)))))))),
-      (entered ((head ((visited ((recorded c)))))) .good .1 .1 .1 .1 .1 .1 .1 .1 .1 .1 .1 .1 .0 .1),
-    )
+    omega (arith, listed-room (turn (visited (recorded c))) (recorded c .put-visit .last .1 .1 .0)
+        (recorded c .put-visit .ensures)
+    (c .close-unit .result)
+    (c .close-unit .last .1 .1 .1 .1 .1 .1 .1 .1 .1 .0)
+    (c .close-unit .last .1 .1 .1 .1 .1 .1 .1 .1 .1 .1 .0)
+    (c .close-unit .ensures (restOf (Q (head (visited (recorded c)))))),
+        (entered (head (visited (recorded c))) .good .1 .1 .1 .1 .1 .1 .1 .1 .1 .1 .1 .1 .0 .1))
 
-written-small : (c : tie.After-close-unit Inv-loop μ-loop) → head ((visited ((recorded c)))) .loop .written + c .close-unit .result .entries < 2 ^ 64
+written-small : (c : tie.After-close-unit Inv-loop μ-loop) → head (visited (recorded c)) .loop .written + c .close-unit .result
+    .entries < 2 ^ 64
 written-small c =
-    omega (
-      arith,
-      written-room (Q (head ((visited ((recorded c)))))) (T (head ((visited ((recorded c)))))) (now (entered ((head ((visited ((recorded c)))))) .args .codes)) (now (entered ((head ((visited ((recorded c)))))) .args .ids)) (now (entered ((head ((visited ((recorded c)))))) .args .entries)) (now (entered ((head ((visited ((recorded c)))))) .args .journal))
-          (ready (head ((visited ((recorded c)))))) refl
-          (head ((visited ((recorded c)))) .loop .ids) (head ((visited ((recorded c)))) .loop .entries) (head ((visited ((recorded c)))) .loop .journal) (head ((visited ((recorded c)))) .loop .c) (head ((visited ((recorded c)))) .loop .s) (head ((visited ((recorded c)))) .loop .visits)
-          (head ((visited ((recorded c)))) .loop .listed) (head ((visited ((recorded c)))) .loop .written) (head ((visited ((recorded c)))) .loop .inv) (inside ((visited ((recorded c))) .before .before .before .before .before))
-          ((visited ((recorded c))) .before .verdict-at .result) (found-is ((visited ((recorded c))) .before)) (visited ((recorded c)) .visit .result) (visited ((recorded c)) .visit .ensures)
-          (recorded c .put-visit .last .1 .1 .0) (recorded c .put-visit .ensures)
-          (c .close-unit .result) (c .close-unit .last .1 .1 .1 .1 .1 .1 .1 .1 .1 .0) (c .close-unit .last .1 .1 .1 .1 .1 .1 .1 .1 .1 .1 .0)
-          (c .close-unit .ensures (restOf (Q (head ((visited ((recorded c)))))))),
-      (entered ((head ((visited ((recorded c)))))) .good .1 .1 .1 .1 .1 .1 .1 .1 .1 .1 .1 .1 .1 .0 .1),
-    )
+    omega (arith, written-room (turn (visited (recorded c))) (recorded c .put-visit .last .1 .1 .0)
+        (recorded c .put-visit .ensures)
+    (c .close-unit .result)
+    (c .close-unit .last .1 .1 .1 .1 .1 .1 .1 .1 .1 .0)
+    (c .close-unit .last .1 .1 .1 .1 .1 .1 .1 .1 .1 .1 .0)
+    (c .close-unit .ensures (restOf (Q (head (visited (recorded c)))))),
+        (entered (head (visited (recorded c))) .good .1 .1 .1 .1 .1 .1 .1 .1 .1 .1 .1 .1 .1 .0 .1))
 
-goes-on : (c : tie.After-close-unit Inv-loop μ-loop) → head ((visited ((recorded c)))) .loop .s .next < c .close-unit .result .next
+goes-on : (c : tie.After-close-unit Inv-loop μ-loop) → head (visited (recorded c)) .loop .s .next < c .close-unit .result .next
 goes-on c =
-    next-more (Q (head ((visited ((recorded c)))))) (T (head ((visited ((recorded c)))))) (now (entered ((head ((visited ((recorded c)))))) .args .codes)) (now (entered ((head ((visited ((recorded c)))))) .args .ids)) (now (entered ((head ((visited ((recorded c)))))) .args .entries)) (now (entered ((head ((visited ((recorded c)))))) .args .journal))
-    (ready (head ((visited ((recorded c)))))) refl
-    (head ((visited ((recorded c)))) .loop .ids) (head ((visited ((recorded c)))) .loop .entries) (head ((visited ((recorded c)))) .loop .journal) (head ((visited ((recorded c)))) .loop .c) (head ((visited ((recorded c)))) .loop .s) (head ((visited ((recorded c)))) .loop .visits)
-    (head ((visited ((recorded c)))) .loop .listed) (head ((visited ((recorded c)))) .loop .written) (head ((visited ((recorded c)))) .loop .inv) (inside ((visited ((recorded c))) .before .before .before .before .before))
-    ((visited ((recorded c))) .before .verdict-at .result) (found-is ((visited ((recorded c))) .before)) (visited ((recorded c)) .visit .result) (visited ((recorded c)) .visit .ensures)
-    (recorded c .put-visit .last .1 .1 .0) (recorded c .put-visit .ensures)
-    (c .close-unit .result) (c .close-unit .last .1 .1 .1 .1 .1 .1 .1 .1 .1 .0) (c .close-unit .last .1 .1 .1 .1 .1 .1 .1 .1 .1 .1 .0)
-    (c .close-unit .ensures (restOf (Q (head ((visited ((recorded c))))))))
+    next-more (turn (visited (recorded c))) (recorded c .put-visit .last .1 .1 .0) (recorded c .put-visit .ensures)
+    (c .close-unit .result)
+    (c .close-unit .last .1 .1 .1 .1 .1 .1 .1 .1 .1 .0)
+    (c .close-unit .last .1 .1 .1 .1 .1 .1 .1 .1 .1 .1 .0)
+    (c .close-unit .ensures (restOf (Q (head (visited (recorded c))))))
 
 -- the controls, the mode and the ending
-controls-now : (c : tie.Joined2 Inv-loop μ-loop) → Became (head ((visited ((recorded ((closed c)))))) .loop .c) (c .if2 .c)
-    (visitAt (Q (head ((visited ((recorded ((closed c)))))))) (record { next = head ((visited ((recorded ((closed c)))))) .loop .s .next; members = head ((visited ((recorded ((closed c)))))) .loop .inv .members; controls = controlsOf (head ((visited ((recorded ((closed c)))))) .loop .c) }) .after .controls)
+controls-now : (c : tie.Joined2 Inv-loop μ-loop) → Became (head (visited (recorded (closed c))) .loop .c) (c .if2 .c)
+    (visitAt (Q (head (visited (recorded (closed c)))))
+        (record { next = head (visited (recorded (closed c))) .loop .s .next; members = head (visited (recorded (closed c))) .loop
+        .inv .members; controls = controlsOf (head (visited (recorded (closed c))) .loop .c) }) .after .controls)
 controls-now c =
     ⊎-elim
-    (λ w. changed-yes (Q (head ((visited ((recorded ((closed c)))))))) (T (head ((visited ((recorded ((closed c)))))))) (now (entered ((head ((visited ((recorded ((closed c)))))))) .args .codes)) (now (entered ((head ((visited ((recorded ((closed c)))))))) .args .ids)) (now (entered ((head ((visited ((recorded ((closed c)))))))) .args .entries)) (now (entered ((head ((visited ((recorded ((closed c)))))))) .args .journal))
-    (ready (head ((visited ((recorded ((closed c)))))))) refl
-    (head ((visited ((recorded ((closed c)))))) .loop .ids) (head ((visited ((recorded ((closed c)))))) .loop .entries) (head ((visited ((recorded ((closed c)))))) .loop .journal) (head ((visited ((recorded ((closed c)))))) .loop .c) (head ((visited ((recorded ((closed c)))))) .loop .s) (head ((visited ((recorded ((closed c)))))) .loop .visits)
-    (head ((visited ((recorded ((closed c)))))) .loop .listed) (head ((visited ((recorded ((closed c)))))) .loop .written) (head ((visited ((recorded ((closed c)))))) .loop .inv) (inside ((visited ((recorded ((closed c))))) .before .before .before .before .before))
-    ((visited ((recorded ((closed c))))) .before .verdict-at .result) (found-is ((visited ((recorded ((closed c))))) .before)) (visited ((recorded ((closed c)))) .visit .result) (visited ((recorded ((closed c)))) .visit .ensures)
-    (recorded ((closed c)) .put-visit .last .1 .1 .0) (recorded ((closed c)) .put-visit .ensures)
+    (λ w. changed-yes (turn (visited (recorded (closed c)))) (recorded (closed c) .put-visit .last .1 .1 .0)
+        (recorded (closed c) .put-visit .ensures)
     (c .before .changes .result) (c .if2 .c) (w .3 .result) (c .before .changes .ensures) (w .0 .taken) (w .4) (w .3 .ensures))
-    (λ w. changed-no (Q (head ((visited ((recorded ((closed c)))))))) (T (head ((visited ((recorded ((closed c)))))))) (now (entered ((head ((visited ((recorded ((closed c)))))))) .args .codes)) (now (entered ((head ((visited ((recorded ((closed c)))))))) .args .ids)) (now (entered ((head ((visited ((recorded ((closed c)))))))) .args .entries)) (now (entered ((head ((visited ((recorded ((closed c)))))))) .args .journal))
-    (ready (head ((visited ((recorded ((closed c)))))))) refl
-    (head ((visited ((recorded ((closed c)))))) .loop .ids) (head ((visited ((recorded ((closed c)))))) .loop .entries) (head ((visited ((recorded ((closed c)))))) .loop .journal) (head ((visited ((recorded ((closed c)))))) .loop .c) (head ((visited ((recorded ((closed c)))))) .loop .s) (head ((visited ((recorded ((closed c)))))) .loop .visits)
-    (head ((visited ((recorded ((closed c)))))) .loop .listed) (head ((visited ((recorded ((closed c)))))) .loop .written) (head ((visited ((recorded ((closed c)))))) .loop .inv) (inside ((visited ((recorded ((closed c))))) .before .before .before .before .before))
-    ((visited ((recorded ((closed c))))) .before .verdict-at .result) (found-is ((visited ((recorded ((closed c))))) .before)) (visited ((recorded ((closed c)))) .visit .result) (visited ((recorded ((closed c)))) .visit .ensures)
-    (recorded ((closed c)) .put-visit .last .1 .1 .0) (recorded ((closed c)) .put-visit .ensures)
+    (λ w. changed-no (turn (visited (recorded (closed c)))) (recorded (closed c) .put-visit .last .1 .1 .0)
+        (recorded (closed c) .put-visit .ensures)
     (c .before .changes .result) (c .if2 .c) (c .before .changes .ensures) (w .0 .left) (w .1))
     (c .if2 .came)
 
-mode-is : (c : tie.After-mode-under Inv-loop μ-loop) → c .mode-under .result ≡ modeUnder (Q (head ((visited ((recorded ((closed (c .before .before))))))))) (controlsOf (c .before .before .if2 .c))
+mode-is : (c : tie.After-mode-under Inv-loop μ-loop) → c .mode-under .result ≡ modeUnder
+    (Q (head (visited (recorded (closed (c .before .before)))))) (controlsOf (c .before .before .if2 .c))
 mode-is c =
-    mode-law (Q (head ((visited ((recorded ((closed (c .before .before))))))))) (c .before .before .if2 .c) ((head ((visited ((recorded ((closed (c .before .before)))))))) .before .mode-numbered .result) (c .mode-under .result) ((head ((visited ((recorded ((closed (c .before .before)))))))) .before .mode-numbered .ensures) (c .mode-under .ensures)
+    mode-law (Q (head (visited (recorded (closed (c .before .before)))))) (c .before .before .if2 .c)
+        ((head (visited (recorded (closed (c .before .before))))) .before .mode-numbered .result) (c .mode-under .result)
+        ((head (visited (recorded (closed (c .before .before))))) .before .mode-numbered .ensures) (c .mode-under .ensures)
 
 end-is : (c : tie.After-end-of Inv-loop μ-loop)
-    → c .end-of .result ≡ endBy ((visited ((recorded ((closed (c .before .before .before)))))) .before .verdict-at .result) (closed (c .before .before .before) .close-unit .result .disruptive) (modeUnder (Q (head ((visited ((recorded ((closed (c .before .before .before))))))))) (controlsOf (c .before .before .before .if2 .c)))
+    → c .end-of .result ≡ endBy ((visited (recorded (closed (c .before .before .before)))) .before .verdict-at .result)
+        (closed (c .before .before .before) .close-unit .result .disruptive)
+        (modeUnder (Q (head (visited (recorded (closed (c .before .before .before))))))
+        (controlsOf (c .before .before .before .if2 .c)))
 end-is c =
     c .end-of .ensures
-    ∙ ap (endBy ((visited ((recorded ((closed (c .before .before .before)))))) .before .verdict-at .result) (closed (c .before .before .before) .close-unit .result .disruptive)) (mode-is (c .before))
+    ∙ ap (endBy ((visited (recorded (closed (c .before .before .before)))) .before .verdict-at .result)
+        (closed (c .before .before .before) .close-unit .result .disruptive)) (mode-is (c .before))
 
 last-by : (c : tie.After-is-last Inv-loop μ-loop) (b : Bool) → c .is-last .result ≡ b
-    → (not (isGoing (c .before .end-of .result)) || isOff (modeUnder (Q (head ((visited ((recorded ((closed ((settled c)))))))))) (controlsOf (settled c .if2 .c)))) ≡ b
+    → (not (isGoing (c .before .end-of .result)) || isOff
+        (modeUnder (Q (head (visited (recorded (closed (settled c)))))) (controlsOf (settled c .if2 .c)))) ≡ b
 last-by c b e =
-    ap (λ (m : RuleEngineMode). not (isGoing (c .before .end-of .result)) || isOff m) (sym (mode-is (c .before .before))) ∙ (sym (c .is-last .ensures) ∙ e)
+    ap (λ (m : RuleEngineMode). not (isGoing (c .before .end-of .result)) || isOff m) (sym (mode-is (c .before .before))) ∙
+        (sym (c .is-last .ensures) ∙ e)
 
 mode-numbered-requires : tie.Need-mode-numbered-requires Inv-loop μ-loop
 mode-numbered-requires c κs = tt
@@ -260,8 +259,10 @@ mode-numbered-requires c κs = tt
 loop-holds : tie.Need-loop-holds Inv-loop μ-loop
 loop-holds c = let a = c .before .before .before .before .before .before .before .before .before .before .args in
     let t = fresh (a .held) (a .listed-before) (a .written-before) in
-    sofar-none (callOf (a .phase) (a .mode) (a .status) (now (a .rules)) (now (a .actions)) (now (a .markers)) (now (a .text)) (now (a .outcomes)) t (now (a .ids)) (now (a .entries)) (now (a .journal)))
-    t (now (a .codes)) (now (a .ids)) (now (a .entries)) (now (a .journal)) refl (c .before .before .before .before .before .before .before .before .before .before .pre)
+    sofar-none (callOf (a .phase) (a .mode) (a .status) (now (a .rules)) (now (a .actions)) (now (a .markers)) (now (a .text))
+        (now (a .outcomes)) t (now (a .ids)) (now (a .entries)) (now (a .journal)))
+    t (now (a .codes)) (now (a .ids)) (now (a .entries)) (now (a .journal)) refl
+        (c .before .before .before .before .before .before .before .before .before .before .pre)
 
 verdict-at-requires : tie.Need-verdict-at-requires Inv-loop μ-loop
 verdict-at-requires c κs = tt
@@ -276,20 +277,16 @@ mul-put-visit : tie.Need-mul-put-visit Inv-loop μ-loop
 mul-put-visit c = omega (arith, journal-small c)
 
 sub-put-visit : tie.Need-sub-put-visit Inv-loop μ-loop
-sub-put-visit c = journal-from c
+sub-put-visit c = journal-start (turn c)
 
 part-put-visit-start : tie.Need-part-put-visit-start Inv-loop μ-loop
-part-put-visit-start c = journal-from (c)
+part-put-visit-start c = journal-start (turn (c))
 
 part-put-visit-end : tie.Need-part-put-visit-end Inv-loop μ-loop
 part-put-visit-end c = le-refl _
 
 put-visit-requires : tie.Need-put-visit-requires Inv-loop μ-loop
-put-visit-requires c κs = journal-free (Q (head (c .before))) (T (head (c .before))) (now (entered ((head (c .before))) .args .codes)) (now (entered ((head (c .before))) .args .ids)) (now (entered ((head (c .before))) .args .entries)) (now (entered ((head (c .before))) .args .journal))
-    (ready (head (c .before))) refl
-    (head (c .before) .loop .ids) (head (c .before) .loop .entries) (head (c .before) .loop .journal) (head (c .before) .loop .c) (head (c .before) .loop .s) (head (c .before) .loop .visits)
-    (head (c .before) .loop .listed) (head (c .before) .loop .written) (head (c .before) .loop .inv) (inside (c .before .before .before .before .before .before))
-    (c .before .before .verdict-at .result) (found-is (c .before .before)) (c .before .visit .result) (c .before .visit .ensures)
+put-visit-requires c κs = journal-free (turn (c .before))
 
 add-visits : tie.Need-add-visits Inv-loop μ-loop
 add-visits c = omega (arith, journal-small (visited (c .before .before)))
@@ -319,10 +316,10 @@ mul-close-unit-2 : tie.Need-mul-close-unit-2 Inv-loop μ-loop
 mul-close-unit-2 c = omega (arith, ids-small (visited (c .before .before .before .before .before .before)))
 
 sub-close-unit-2 : tie.Need-sub-close-unit-2 Inv-loop μ-loop
-sub-close-unit-2 c = ids-from (visited (c .before .before .before .before .before .before))
+sub-close-unit-2 c = ids-start (turn (visited (c .before .before .before .before .before .before)))
 
 part-close-unit-start-2 : tie.Need-part-close-unit-start-2 Inv-loop μ-loop
-part-close-unit-start-2 c = ids-from (visited (c .before .before .before .before .before .before))
+part-close-unit-start-2 c = ids-start (turn (visited (c .before .before .before .before .before .before)))
 
 part-close-unit-end-2 : tie.Need-part-close-unit-end-2 Inv-loop μ-loop
 part-close-unit-end-2 c = le-refl _
@@ -331,10 +328,10 @@ mul-close-unit-3 : tie.Need-mul-close-unit-3 Inv-loop μ-loop
 mul-close-unit-3 c = omega (arith, entries-small (visited (c .before .before .before .before .before .before .before)))
 
 sub-close-unit-3 : tie.Need-sub-close-unit-3 Inv-loop μ-loop
-sub-close-unit-3 c = entries-from (visited (c .before .before .before .before .before .before .before))
+sub-close-unit-3 c = entries-start (turn (visited (c .before .before .before .before .before .before .before)))
 
 part-close-unit-start-3 : tie.Need-part-close-unit-start-3 Inv-loop μ-loop
-part-close-unit-start-3 c = entries-from (visited (c .before .before .before .before .before .before .before))
+part-close-unit-start-3 c = entries-start (turn (visited (c .before .before .before .before .before .before .before)))
 
 part-close-unit-end-3 : tie.Need-part-close-unit-end-3 Inv-loop μ-loop
 part-close-unit-end-3 c = le-refl _
@@ -364,16 +361,19 @@ changes-requires : tie.Need-changes-requires Inv-loop μ-loop
 changes-requires c κs = tt
 
 mul-unit-controls : tie.Need-mul-unit-controls Inv-loop μ-loop
-mul-unit-controls c = omega (arith, unit-small (recorded (c .before .before .before .before .before .before .before .before .before .before)))
+mul-unit-controls c = omega
+    (arith, unit-small (recorded (c .before .before .before .before .before .before .before .before .before .before)))
 
 sub-unit-controls : tie.Need-sub-unit-controls Inv-loop μ-loop
 sub-unit-controls c = unit-from (recorded (c .before .before .before .before .before .before .before .before .before .before))
 
 part-unit-controls-start : tie.Need-part-unit-controls-start Inv-loop μ-loop
-part-unit-controls-start c = unit-from (recorded (c .before .before .before .before .before .before .before .before .before .before .before))
+part-unit-controls-start c = unit-from
+    (recorded (c .before .before .before .before .before .before .before .before .before .before .before))
 
 part-unit-controls-end : tie.Need-part-unit-controls-end Inv-loop μ-loop
-part-unit-controls-end c = unit-to (recorded (c .before .before .before .before .before .before .before .before .before .before .before))
+part-unit-controls-end c = unit-to
+    (recorded (c .before .before .before .before .before .before .before .before .before .before .before))
 
 unit-controls-requires : tie.Need-unit-controls-requires Inv-loop μ-loop
 unit-controls-requires c κs = tt
@@ -388,16 +388,16 @@ is-last-requires : tie.Need-is-last-requires Inv-loop μ-loop
 is-last-requires c κs = tt
 
 mul-stopped : tie.Need-mul-stopped Inv-loop μ-loop
-mul-stopped c = omega (arith, unit-small (recorded ((closed ((settled (c .before)))))))
+mul-stopped c = omega (arith, unit-small (recorded (closed (settled (c .before)))))
 
 sub-stopped : tie.Need-sub-stopped Inv-loop μ-loop
-sub-stopped c = unit-from (recorded ((closed ((settled (c .before))))))
+sub-stopped c = unit-from (recorded (closed (settled (c .before))))
 
 part-stopped-start : tie.Need-part-stopped-start Inv-loop μ-loop
-part-stopped-start c = unit-from (recorded ((closed ((settled (c .before .before))))))
+part-stopped-start c = unit-from (recorded (closed (settled (c .before .before))))
 
 part-stopped-end : tie.Need-part-stopped-end Inv-loop μ-loop
-part-stopped-end c = unit-to (recorded ((closed ((settled (c .before .before))))))
+part-stopped-end c = unit-to (recorded (closed (settled (c .before .before))))
 
 stopped-requires : tie.Need-stopped-requires Inv-loop μ-loop
 stopped-requires c κs = tt
@@ -406,63 +406,71 @@ ended-requires : tie.Need-ended-requires Inv-loop μ-loop
 ended-requires c κs = tt
 
 same-length : tie.Need-same-length Inv-loop μ-loop
-same-length c = ids-kept (Q (head ((visited ((recorded ((closed ((settled (c .before .before .before .before .before))))))))))) (T (head ((visited ((recorded ((closed ((settled (c .before .before .before .before .before))))))))))) (now (entered ((head ((visited ((recorded ((closed ((settled (c .before .before .before .before .before))))))))))) .args .codes)) (now (entered ((head ((visited ((recorded ((closed ((settled (c .before .before .before .before .before))))))))))) .args .ids)) (now (entered ((head ((visited ((recorded ((closed ((settled (c .before .before .before .before .before))))))))))) .args .entries)) (now (entered ((head ((visited ((recorded ((closed ((settled (c .before .before .before .before .before))))))))))) .args .journal))
-    (ready (head ((visited ((recorded ((closed ((settled (c .before .before .before .before .before))))))))))) refl
-    (head ((visited ((recorded ((closed ((settled (c .before .before .before .before .before))))))))) .loop .ids) (head ((visited ((recorded ((closed ((settled (c .before .before .before .before .before))))))))) .loop .entries) (head ((visited ((recorded ((closed ((settled (c .before .before .before .before .before))))))))) .loop .journal) (head ((visited ((recorded ((closed ((settled (c .before .before .before .before .before))))))))) .loop .c) (head ((visited ((recorded ((closed ((settled (c .before .before .before .before .before))))))))) .loop .s) (head ((visited ((recorded ((closed ((settled (c .before .before .before .before .before))))))))) .loop .visits)
-    (head ((visited ((recorded ((closed ((settled (c .before .before .before .before .before))))))))) .loop .listed) (head ((visited ((recorded ((closed ((settled (c .before .before .before .before .before))))))))) .loop .written) (head ((visited ((recorded ((closed ((settled (c .before .before .before .before .before))))))))) .loop .inv) (inside ((visited ((recorded ((closed ((settled (c .before .before .before .before .before)))))))) .before .before .before .before .before))
-    ((visited ((recorded ((closed ((settled (c .before .before .before .before .before)))))))) .before .verdict-at .result) (found-is ((visited ((recorded ((closed ((settled (c .before .before .before .before .before)))))))) .before)) (visited ((recorded ((closed ((settled (c .before .before .before .before .before))))))) .visit .result) (visited ((recorded ((closed ((settled (c .before .before .before .before .before))))))) .visit .ensures)
-    (recorded ((closed ((settled (c .before .before .before .before .before))))) .put-visit .last .1 .1 .0) (recorded ((closed ((settled (c .before .before .before .before .before))))) .put-visit .ensures)
-    (closed ((settled (c .before .before .before .before .before))) .close-unit .result) (closed ((settled (c .before .before .before .before .before))) .close-unit .last .1 .1 .1 .1 .1 .1 .1 .1 .1 .0) (closed ((settled (c .before .before .before .before .before))) .close-unit .last .1 .1 .1 .1 .1 .1 .1 .1 .1 .1 .0)
-    (closed ((settled (c .before .before .before .before .before))) .close-unit .ensures (restOf (Q (head ((visited ((recorded ((closed ((settled (c .before .before .before .before .before)))))))))))))
+same-length c = ids-kept (turn (visited (recorded (closed (settled (c .before .before .before .before .before))))))
+    (recorded (closed (settled (c .before .before .before .before .before))) .put-visit .last .1 .1 .0)
+    (recorded (closed (settled (c .before .before .before .before .before))) .put-visit .ensures)
+    (closed (settled (c .before .before .before .before .before)) .close-unit .result)
+    (closed (settled (c .before .before .before .before .before)) .close-unit .last .1 .1 .1 .1 .1 .1 .1 .1 .1 .0)
+    (closed (settled (c .before .before .before .before .before)) .close-unit .last .1 .1 .1 .1 .1 .1 .1 .1 .1 .1 .0)
+    (closed (settled (c .before .before .before .before .before)) .close-unit .ensures
+        (restOf (Q (head (visited (recorded (closed (settled (c .before .before .before .before .before)))))))))
 
 same-length-2 : tie.Need-same-length-2 Inv-loop μ-loop
-same-length-2 c = entries-kept (Q (head ((visited ((recorded ((closed ((settled (c .before .before .before .before .before))))))))))) (T (head ((visited ((recorded ((closed ((settled (c .before .before .before .before .before))))))))))) (now (entered ((head ((visited ((recorded ((closed ((settled (c .before .before .before .before .before))))))))))) .args .codes)) (now (entered ((head ((visited ((recorded ((closed ((settled (c .before .before .before .before .before))))))))))) .args .ids)) (now (entered ((head ((visited ((recorded ((closed ((settled (c .before .before .before .before .before))))))))))) .args .entries)) (now (entered ((head ((visited ((recorded ((closed ((settled (c .before .before .before .before .before))))))))))) .args .journal))
-    (ready (head ((visited ((recorded ((closed ((settled (c .before .before .before .before .before))))))))))) refl
-    (head ((visited ((recorded ((closed ((settled (c .before .before .before .before .before))))))))) .loop .ids) (head ((visited ((recorded ((closed ((settled (c .before .before .before .before .before))))))))) .loop .entries) (head ((visited ((recorded ((closed ((settled (c .before .before .before .before .before))))))))) .loop .journal) (head ((visited ((recorded ((closed ((settled (c .before .before .before .before .before))))))))) .loop .c) (head ((visited ((recorded ((closed ((settled (c .before .before .before .before .before))))))))) .loop .s) (head ((visited ((recorded ((closed ((settled (c .before .before .before .before .before))))))))) .loop .visits)
-    (head ((visited ((recorded ((closed ((settled (c .before .before .before .before .before))))))))) .loop .listed) (head ((visited ((recorded ((closed ((settled (c .before .before .before .before .before))))))))) .loop .written) (head ((visited ((recorded ((closed ((settled (c .before .before .before .before .before))))))))) .loop .inv) (inside ((visited ((recorded ((closed ((settled (c .before .before .before .before .before)))))))) .before .before .before .before .before))
-    ((visited ((recorded ((closed ((settled (c .before .before .before .before .before)))))))) .before .verdict-at .result) (found-is ((visited ((recorded ((closed ((settled (c .before .before .before .before .before)))))))) .before)) (visited ((recorded ((closed ((settled (c .before .before .before .before .before))))))) .visit .result) (visited ((recorded ((closed ((settled (c .before .before .before .before .before))))))) .visit .ensures)
-    (recorded ((closed ((settled (c .before .before .before .before .before))))) .put-visit .last .1 .1 .0) (recorded ((closed ((settled (c .before .before .before .before .before))))) .put-visit .ensures)
-    (closed ((settled (c .before .before .before .before .before))) .close-unit .result) (closed ((settled (c .before .before .before .before .before))) .close-unit .last .1 .1 .1 .1 .1 .1 .1 .1 .1 .0) (closed ((settled (c .before .before .before .before .before))) .close-unit .last .1 .1 .1 .1 .1 .1 .1 .1 .1 .1 .0)
-    (closed ((settled (c .before .before .before .before .before))) .close-unit .ensures (restOf (Q (head ((visited ((recorded ((closed ((settled (c .before .before .before .before .before)))))))))))))
+same-length-2 c = entries-kept (turn (visited (recorded (closed (settled (c .before .before .before .before .before))))))
+    (recorded (closed (settled (c .before .before .before .before .before))) .put-visit .last .1 .1 .0)
+    (recorded (closed (settled (c .before .before .before .before .before))) .put-visit .ensures)
+    (closed (settled (c .before .before .before .before .before)) .close-unit .result)
+    (closed (settled (c .before .before .before .before .before)) .close-unit .last .1 .1 .1 .1 .1 .1 .1 .1 .1 .0)
+    (closed (settled (c .before .before .before .before .before)) .close-unit .last .1 .1 .1 .1 .1 .1 .1 .1 .1 .1 .0)
+    (closed (settled (c .before .before .before .before .before)) .close-unit .ensures
+        (restOf (Q (head (visited (recorded (closed (settled (c .before .before .before .before .before)))))))))
 
 same-length-3 : tie.Need-same-length-3 Inv-loop μ-loop
-same-length-3 c = journal-kept (Q (head ((visited ((recorded ((closed ((settled (c .before .before .before .before .before))))))))))) (T (head ((visited ((recorded ((closed ((settled (c .before .before .before .before .before))))))))))) (now (entered ((head ((visited ((recorded ((closed ((settled (c .before .before .before .before .before))))))))))) .args .codes)) (now (entered ((head ((visited ((recorded ((closed ((settled (c .before .before .before .before .before))))))))))) .args .ids)) (now (entered ((head ((visited ((recorded ((closed ((settled (c .before .before .before .before .before))))))))))) .args .entries)) (now (entered ((head ((visited ((recorded ((closed ((settled (c .before .before .before .before .before))))))))))) .args .journal))
-    (ready (head ((visited ((recorded ((closed ((settled (c .before .before .before .before .before))))))))))) refl
-    (head ((visited ((recorded ((closed ((settled (c .before .before .before .before .before))))))))) .loop .ids) (head ((visited ((recorded ((closed ((settled (c .before .before .before .before .before))))))))) .loop .entries) (head ((visited ((recorded ((closed ((settled (c .before .before .before .before .before))))))))) .loop .journal) (head ((visited ((recorded ((closed ((settled (c .before .before .before .before .before))))))))) .loop .c) (head ((visited ((recorded ((closed ((settled (c .before .before .before .before .before))))))))) .loop .s) (head ((visited ((recorded ((closed ((settled (c .before .before .before .before .before))))))))) .loop .visits)
-    (head ((visited ((recorded ((closed ((settled (c .before .before .before .before .before))))))))) .loop .listed) (head ((visited ((recorded ((closed ((settled (c .before .before .before .before .before))))))))) .loop .written) (head ((visited ((recorded ((closed ((settled (c .before .before .before .before .before))))))))) .loop .inv) (inside ((visited ((recorded ((closed ((settled (c .before .before .before .before .before)))))))) .before .before .before .before .before))
-    ((visited ((recorded ((closed ((settled (c .before .before .before .before .before)))))))) .before .verdict-at .result) (found-is ((visited ((recorded ((closed ((settled (c .before .before .before .before .before)))))))) .before)) (visited ((recorded ((closed ((settled (c .before .before .before .before .before))))))) .visit .result) (visited ((recorded ((closed ((settled (c .before .before .before .before .before))))))) .visit .ensures)
-    (recorded ((closed ((settled (c .before .before .before .before .before))))) .put-visit .last .1 .1 .0) (recorded ((closed ((settled (c .before .before .before .before .before))))) .put-visit .ensures)
-    (closed ((settled (c .before .before .before .before .before))) .close-unit .result) (closed ((settled (c .before .before .before .before .before))) .close-unit .last .1 .1 .1 .1 .1 .1 .1 .1 .1 .0) (closed ((settled (c .before .before .before .before .before))) .close-unit .last .1 .1 .1 .1 .1 .1 .1 .1 .1 .1 .0)
-    (closed ((settled (c .before .before .before .before .before))) .close-unit .ensures (restOf (Q (head ((visited ((recorded ((closed ((settled (c .before .before .before .before .before)))))))))))))
+same-length-3 c = journal-kept (turn (visited (recorded (closed (settled (c .before .before .before .before .before))))))
+    (recorded (closed (settled (c .before .before .before .before .before))) .put-visit .last .1 .1 .0)
+    (recorded (closed (settled (c .before .before .before .before .before))) .put-visit .ensures)
+    (closed (settled (c .before .before .before .before .before)) .close-unit .result)
+    (closed (settled (c .before .before .before .before .before)) .close-unit .last .1 .1 .1 .1 .1 .1 .1 .1 .1 .0)
+    (closed (settled (c .before .before .before .before .before)) .close-unit .last .1 .1 .1 .1 .1 .1 .1 .1 .1 .1 .0)
+    (closed (settled (c .before .before .before .before .before)) .close-unit .ensures
+        (restOf (Q (head (visited (recorded (closed (settled (c .before .before .before .before .before)))))))))
 
 returns : tie.Need-returns Inv-loop μ-loop
 returns c = rw (c .ended .ensures)
-    (sofar-last (Q (head ((visited ((recorded ((closed ((settled (c .before .before .before .before .before))))))))))) (T (head ((visited ((recorded ((closed ((settled (c .before .before .before .before .before))))))))))) (now (entered ((head ((visited ((recorded ((closed ((settled (c .before .before .before .before .before))))))))))) .args .codes)) (now (entered ((head ((visited ((recorded ((closed ((settled (c .before .before .before .before .before))))))))))) .args .ids)) (now (entered ((head ((visited ((recorded ((closed ((settled (c .before .before .before .before .before))))))))))) .args .entries)) (now (entered ((head ((visited ((recorded ((closed ((settled (c .before .before .before .before .before))))))))))) .args .journal))
-    (ready (head ((visited ((recorded ((closed ((settled (c .before .before .before .before .before))))))))))) refl
-    (head ((visited ((recorded ((closed ((settled (c .before .before .before .before .before))))))))) .loop .ids) (head ((visited ((recorded ((closed ((settled (c .before .before .before .before .before))))))))) .loop .entries) (head ((visited ((recorded ((closed ((settled (c .before .before .before .before .before))))))))) .loop .journal) (head ((visited ((recorded ((closed ((settled (c .before .before .before .before .before))))))))) .loop .c) (head ((visited ((recorded ((closed ((settled (c .before .before .before .before .before))))))))) .loop .s) (head ((visited ((recorded ((closed ((settled (c .before .before .before .before .before))))))))) .loop .visits)
-    (head ((visited ((recorded ((closed ((settled (c .before .before .before .before .before))))))))) .loop .listed) (head ((visited ((recorded ((closed ((settled (c .before .before .before .before .before))))))))) .loop .written) (head ((visited ((recorded ((closed ((settled (c .before .before .before .before .before))))))))) .loop .inv) (inside ((visited ((recorded ((closed ((settled (c .before .before .before .before .before)))))))) .before .before .before .before .before))
-    ((visited ((recorded ((closed ((settled (c .before .before .before .before .before)))))))) .before .verdict-at .result) (found-is ((visited ((recorded ((closed ((settled (c .before .before .before .before .before)))))))) .before)) (visited ((recorded ((closed ((settled (c .before .before .before .before .before))))))) .visit .result) (visited ((recorded ((closed ((settled (c .before .before .before .before .before))))))) .visit .ensures)
-    (recorded ((closed ((settled (c .before .before .before .before .before))))) .put-visit .last .1 .1 .0) (recorded ((closed ((settled (c .before .before .before .before .before))))) .put-visit .ensures)
-    (closed ((settled (c .before .before .before .before .before))) .close-unit .result) (closed ((settled (c .before .before .before .before .before))) .close-unit .last .1 .1 .1 .1 .1 .1 .1 .1 .1 .0) (closed ((settled (c .before .before .before .before .before))) .close-unit .last .1 .1 .1 .1 .1 .1 .1 .1 .1 .1 .0)
-    (closed ((settled (c .before .before .before .before .before))) .close-unit .ensures (restOf (Q (head ((visited ((recorded ((closed ((settled (c .before .before .before .before .before)))))))))))))
-    (settled (c .before .before .before .before .before) .if2 .c) (controls-now (settled (c .before .before .before .before .before))) (c .before .before .before .before .before .before .end-of .result) (end-is (c .before .before .before .before .before .before))
+    (sofar-last (turn (visited (recorded (closed (settled (c .before .before .before .before .before))))))
+        (recorded (closed (settled (c .before .before .before .before .before))) .put-visit .last .1 .1 .0)
+        (recorded (closed (settled (c .before .before .before .before .before))) .put-visit .ensures)
+    (closed (settled (c .before .before .before .before .before)) .close-unit .result)
+    (closed (settled (c .before .before .before .before .before)) .close-unit .last .1 .1 .1 .1 .1 .1 .1 .1 .1 .0)
+    (closed (settled (c .before .before .before .before .before)) .close-unit .last .1 .1 .1 .1 .1 .1 .1 .1 .1 .1 .0)
+    (closed (settled (c .before .before .before .before .before)) .close-unit .ensures
+        (restOf (Q (head (visited (recorded (closed (settled (c .before .before .before .before .before)))))))))
+    (settled (c .before .before .before .before .before) .if2 .c)
+        (controls-now (settled (c .before .before .before .before .before)))
+        (c .before .before .before .before .before .before .end-of .result)
+        (end-is (c .before .before .before .before .before .before))
     (c .before .stopped .result)
-    (c .before .stopped .ensures (now (entered ((head ((visited ((recorded ((closed ((settled (c .before .before .before .before .before))))))))))) .args .markers)) (now (entered ((head ((visited ((recorded ((closed ((settled (c .before .before .before .before .before))))))))))) .args .text)) (now (entered ((head ((visited ((recorded ((closed ((settled (c .before .before .before .before .before))))))))))) .args .outcomes)) (restOf (Q (head ((visited ((recorded ((closed ((settled (c .before .before .before .before .before)))))))))))) refl)
+    (c .before .stopped .ensures
+        (now (entered (head (visited (recorded (closed (settled (c .before .before .before .before .before)))))) .args .markers))
+        (now (entered (head (visited (recorded (closed (settled (c .before .before .before .before .before)))))) .args .text))
+        (now (entered (head (visited (recorded (closed (settled (c .before .before .before .before .before)))))) .args .outcomes))
+        (restOf (Q (head (visited (recorded (closed (settled (c .before .before .before .before .before)))))))) refl)
     (last-by (c .before .before .before .before .before) true (c .before .before .before .before .if3 .taken)))
 
 loop-less : tie.Need-loop-less Inv-loop μ-loop
-loop-less c = omega (arith, goes-on (closed ((settled (c .before)))), (visited ((recorded ((closed ((settled (c .before)))))))) .before .before .before .before .before .if1 .taken)
+loop-less c = omega (arith, goes-on (closed (settled (c .before))), (visited (recorded (closed (settled (c .before))))) .before
+    .before .before .before .before .if1 .taken)
 
 loop-again : tie.Need-loop-again Inv-loop μ-loop
-loop-again c = sofar-more (Q (head ((visited ((recorded ((closed ((settled (c .before))))))))))) (T (head ((visited ((recorded ((closed ((settled (c .before))))))))))) (now (entered ((head ((visited ((recorded ((closed ((settled (c .before))))))))))) .args .codes)) (now (entered ((head ((visited ((recorded ((closed ((settled (c .before))))))))))) .args .ids)) (now (entered ((head ((visited ((recorded ((closed ((settled (c .before))))))))))) .args .entries)) (now (entered ((head ((visited ((recorded ((closed ((settled (c .before))))))))))) .args .journal))
-    (ready (head ((visited ((recorded ((closed ((settled (c .before))))))))))) refl
-    (head ((visited ((recorded ((closed ((settled (c .before))))))))) .loop .ids) (head ((visited ((recorded ((closed ((settled (c .before))))))))) .loop .entries) (head ((visited ((recorded ((closed ((settled (c .before))))))))) .loop .journal) (head ((visited ((recorded ((closed ((settled (c .before))))))))) .loop .c) (head ((visited ((recorded ((closed ((settled (c .before))))))))) .loop .s) (head ((visited ((recorded ((closed ((settled (c .before))))))))) .loop .visits)
-    (head ((visited ((recorded ((closed ((settled (c .before))))))))) .loop .listed) (head ((visited ((recorded ((closed ((settled (c .before))))))))) .loop .written) (head ((visited ((recorded ((closed ((settled (c .before))))))))) .loop .inv) (inside ((visited ((recorded ((closed ((settled (c .before)))))))) .before .before .before .before .before))
-    ((visited ((recorded ((closed ((settled (c .before)))))))) .before .verdict-at .result) (found-is ((visited ((recorded ((closed ((settled (c .before)))))))) .before)) (visited ((recorded ((closed ((settled (c .before))))))) .visit .result) (visited ((recorded ((closed ((settled (c .before))))))) .visit .ensures)
-    (recorded ((closed ((settled (c .before))))) .put-visit .last .1 .1 .0) (recorded ((closed ((settled (c .before))))) .put-visit .ensures)
-    (closed ((settled (c .before))) .close-unit .result) (closed ((settled (c .before))) .close-unit .last .1 .1 .1 .1 .1 .1 .1 .1 .1 .0) (closed ((settled (c .before))) .close-unit .last .1 .1 .1 .1 .1 .1 .1 .1 .1 .1 .0)
-    (closed ((settled (c .before))) .close-unit .ensures (restOf (Q (head ((visited ((recorded ((closed ((settled (c .before)))))))))))))
-    (settled (c .before) .if2 .c) (controls-now (settled (c .before))) (c .before .before .end-of .result) (end-is (c .before .before))
+loop-again c = sofar-more (turn (visited (recorded (closed (settled (c .before))))))
+    (recorded (closed (settled (c .before))) .put-visit .last .1 .1 .0)
+    (recorded (closed (settled (c .before))) .put-visit .ensures)
+    (closed (settled (c .before)) .close-unit .result)
+    (closed (settled (c .before)) .close-unit .last .1 .1 .1 .1 .1 .1 .1 .1 .1 .0)
+    (closed (settled (c .before)) .close-unit .last .1 .1 .1 .1 .1 .1 .1 .1 .1 .1 .0)
+    (closed (settled (c .before)) .close-unit .ensures (restOf (Q (head (visited (recorded (closed (settled (c .before)))))))))
+    (settled (c .before) .if2 .c) (controls-now (settled (c .before))) (c .before .before .end-of .result)
+        (end-is (c .before .before))
     (last-by (c .before) false (c .if3 .left))
 
 ended-requires-2 : tie.Need-ended-requires-2 Inv-loop μ-loop
@@ -479,7 +487,11 @@ same-length-6 c = journal-as-lent (c .before .before .before)
 
 returns-2 : tie.Need-returns-2 Inv-loop μ-loop
 returns-2 c = rw (c .ended2 .ensures)
-    (sofar-end (Q (c .before .before .before)) (T (c .before .before .before)) (now (entered (c .before .before .before) .args .ids)) (now (entered (c .before .before .before) .args .entries)) (now (entered (c .before .before .before) .args .journal)) (c .before .before .before .loop .ids) (c .before .before .before .loop .entries) (c .before .before .before .loop .journal) (c .before .before .before .loop .c) (c .before .before .before .loop .s) (c .before .before .before .loop .visits)
+    (sofar-end (Q (c .before .before .before)) (T (c .before .before .before))
+        (now (entered (c .before .before .before) .args .ids)) (now (entered (c .before .before .before) .args .entries))
+        (now (entered (c .before .before .before) .args .journal)) (c .before .before .before .loop .ids)
+        (c .before .before .before .loop .entries) (c .before .before .before .loop .journal) (c .before .before .before .loop .c)
+        (c .before .before .before .loop .s) (c .before .before .before .loop .visits)
     (c .before .before .before .loop .listed) (c .before .before .before .loop .written) (c .before .before .before .loop .inv)
     (omega (arith, c .before .if1 .left, length-rules (now (entered (c .before .before .before) .args .rules)))))
 

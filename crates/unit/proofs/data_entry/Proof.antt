@@ -14,10 +14,12 @@ enum-known-id : tie.Need-enum-known-id
 enum-known-id c = search needs
 
 returns : tie.Need-returns
-returns c = ap (λ (i : OptionU64). entryWith i (c .before .before .args .phase) (c .before .before .args .index)) (sym (c .enum-told .given .1))
+returns c = ap (λ (i : OptionU64). entryWith i (c .before .before .args .phase) (c .before .before .args .index))
+    (sym (c .enum-told .given .1))
 
 returns-2 : tie.Need-returns-2
-returns-2 c = ap (λ (i : OptionU64). entryWith i (c .before .before .before .args .phase) (c .before .before .before .args .index)) (sym (c .before .id .given .1))
+returns-2 c = ap (λ (i : OptionU64). entryWith i (c .before .before .before .args .phase)
+    (c .before .before .before .args .index)) (sym (c .before .id .given .1))
 
 pub data-entry-spec : {M : Type 1} → statement M
 data-entry-spec = tie.close (tie.spec enum-told enum-known-id returns returns-2)

@@ -22,7 +22,8 @@ abbrev entriesFrom : ℕ → OptionU64 → List ℕ → List ℕ → List ℕ �
 entriesFrom phase starter members rules outcomes k = dataFrom members (memberEntry phase starter (ruleList rules) outcomes) k
 
 abbrev Inv-loop : tie.InvT-loop
-Inv-loop phase starter members rules outcomes entries₀ n w₀ k₀ entries w k = Sofar (entriesFrom phase starter members rules outcomes 0) (entriesFrom phase starter members rules outcomes k) entries₀ entries w
+Inv-loop phase starter members rules outcomes entries₀ n w₀ k₀ entries w k = Sofar
+    (entriesFrom phase starter members rules outcomes 0) (entriesFrom phase starter members rules outcomes k) entries₀ entries w
 
 abbrev μ-loop : tie.MeasureT-loop
 μ-loop phase starter members rules outcomes entries₀ n w₀ k₀ entries w k = length members / 2 - k
@@ -77,10 +78,12 @@ add-k : tie.Need-add-k Inv-loop μ-loop
 add-k c = record { fits = small (c .before .before .before .before .before .before .before .before .before .before .before) }
 
 loop-less : tie.Need-loop-less Inv-loop μ-loop
-loop-less c = omega (arith, c .before .before .before .before .before .before .before .before .before .before .before .loop-test .taken)
+loop-less c = omega (arith, c .before .before .before .before .before .before .before .before .before .before .before .loop-test
+    .taken)
 
 loop-again : tie.Need-loop-again Inv-loop μ-loop
-loop-again c = let a = c .before .before .before .before .before .before .before .before .before .before .before .before .before .before .before .before .before .args in
+loop-again c = let a = c .before .before .before .before .before .before .before .before .before .before .before .before .before
+    .before .before .before .before .args in
     let k = c .before .before .before .before .before .before .before .before .before .before .before .before .loop .k in
     let give = memberEntry (a .phase) (a .starter) (ruleList (now (a .rules))) (now (a .outcomes)) in
     let e = c .before .before .before .before .before .data-entry in
@@ -88,10 +91,17 @@ loop-again c = let a = c .before .before .before .before .before .before .before
     let p = c .before .before .put-entry in
     let h = c .before .before .before .before .before .before .before .before .before .before .before .loop-test .taken in
     let is : give (getD (now (a .members)) (2 * k) 0) ≡ keep (eqb (o .result) 2) (e .result ∷ []) =
-    rw (o .ensures, e .ensures, c .before .before .before .before .before .before .own-or .ensures, c .before .before .before .before .before .before .before .rule-id .ensures, c .before .before .before .before .before .before .before .before .rule-at .ensures) in
-    sofar-more (dataFrom (now (a .members)) give 0) (now (a .entries)) (dataFrom (now (a .members)) give k) _ (dataFrom (now (a .members)) give (k + 1))
-    (c .before .before .before .before .before .before .before .before .before .before .before .before .loop .entries) _ (c .before .before .before .before .before .before .before .before .before .before .before .before .loop .w) (p .result)
-    (data-more (now (a .members)) give k (o .result) (e .result) h is) (at-most-one (eqb (getD (now (a .members)) (2 * k + 1) 0) 1 && eqb (o .result) 2) (e .result)) (c .before .before .before .before .before .before .before .before .before .before .before .before .loop .inv) (p .ensures)
+    rw (o .ensures, e .ensures, c .before .before .before .before .before .before .own-or .ensures, c .before .before .before
+        .before .before .before .before .rule-id .ensures, c .before .before .before .before .before .before .before .before
+        .rule-at .ensures) in
+    sofar-more (dataFrom (now (a .members)) give 0) (now (a .entries)) (dataFrom (now (a .members)) give k) _
+        (dataFrom (now (a .members)) give (k + 1))
+    (c .before .before .before .before .before .before .before .before .before .before .before .before .loop .entries) _
+        (c .before .before .before .before .before .before .before .before .before .before .before .before .loop .w) (p .result)
+    (data-more (now (a .members)) give k (o .result) (e .result) h is)
+        (at-most-one (eqb (getD (now (a .members)) (2 * k + 1) 0) 1 && eqb (o .result) 2) (e .result))
+        (c .before .before .before .before .before .before .before .before .before .before .before .before .loop .inv)
+        (p .ensures)
 
 same-length : tie.Need-same-length Inv-loop μ-loop
 same-length c = c .before .loop .inv .kept
@@ -100,7 +110,8 @@ returns : tie.Need-returns Inv-loop μ-loop
 returns c = let a = c .before .before .before .before .before .before .args in
     let give = memberEntry (a .phase) (a .starter) (ruleList (now (a .rules))) (now (a .outcomes)) in
     let e = data-end (now (a .members)) give (c .before .loop .k) (c .loop-test .left) in
-    sofar-end (dataFrom (now (a .members)) give 0) (now (a .entries)) (c .before .loop .entries) (c .before .loop .w) (rw e at (c .before .loop .inv))
+    sofar-end (dataFrom (now (a .members)) give 0) (now (a .entries)) (c .before .loop .entries) (c .before .loop .w)
+        (rw e at (c .before .loop .inv))
 
 pub put-entries-spec : {M : Type 1} → statement M
 put-entries-spec =

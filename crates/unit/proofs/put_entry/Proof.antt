@@ -10,10 +10,13 @@ use Rattle.unit.proofs.put_entry.Statement.{statement}
 use Rattle.unit.proofs.put_entry.Tie as tie
 
 returns : tie.Need-returns
-returns c = put-nothing _ (c .before .args .w) (now (c .before .args .entries)) (no-match (c .before .args .verdict) (c .before .args .outcome) (c .before .args .e) (c .if1 .taken))
+returns c = put-nothing _ (c .before .args .w) (now (c .before .args .entries))
+    (no-match (c .before .args .verdict) (c .before .args .outcome) (c .before .args .e) (c .if1 .taken))
 
 returns-2 : tie.Need-returns-2
-returns-2 c = put-nothing _ (c .before .before .args .w) (now (c .before .before .args .entries)) (no-variable (c .before .before .args .verdict) (c .before .before .args .outcome) (c .before .before .args .e) (c .before .if1 .left) (c .if2 .taken))
+returns-2 c = put-nothing _ (c .before .before .args .w) (now (c .before .before .args .entries))
+    (no-variable (c .before .before .args .verdict) (c .before .before .args .outcome) (c .before .before .args .e)
+    (c .before .if1 .left) (c .if2 .taken))
 
 returns-3 : tie.Need-returns-3
 returns-3 c = put-no-place _ (c .before .before .before .args .w) (now (c .before .before .before .args .entries)) (c .if3 .taken)
@@ -61,7 +64,9 @@ same-length : tie.Need-same-length
 same-length c = search needs
 
 returns-4 : tie.Need-returns-4
-returns-4 c = put-one (c .before .before .before .args .verdict) (c .before .before .before .args .outcome) (c .before .before .before .args .e) (c .before .before .before .args .w) (now (c .before .before .before .args .entries)) (c .before .before .if1 .left) (c .before .if2 .left) (c .if3 .left)
+returns-4 c = put-one (c .before .before .before .args .verdict) (c .before .before .before .args .outcome)
+    (c .before .before .before .args .e) (c .before .before .before .args .w) (now (c .before .before .before .args .entries))
+    (c .before .before .if1 .left) (c .before .if2 .left) (c .if3 .left)
 
 pub put-entry-spec : {M : Type 1} → statement M
 put-entry-spec =

@@ -16,7 +16,8 @@ returns : tie.Need-returns
 returns c = id-none (now (c .before .before .args .ids)) (c .before .before .args .id) (c .enum-told .given .1)
 
 returns-2 : tie.Need-returns-2
-returns-2 c = id-no-place (now (c .before .before .before .before .args .ids)) (c .before .before .before .before .args .id) (c .if1 .taken)
+returns-2 c = id-no-place (now (c .before .before .before .before .args .ids)) (c .before .before .before .before .args .id)
+    (c .if1 .taken)
 
 slice-write-ids : tie.Need-slice-write-ids
 slice-write-ids c = search needs
@@ -25,7 +26,8 @@ same-length : tie.Need-same-length
 same-length c = search needs
 
 returns-3 : tie.Need-returns-3
-returns-3 c = id-one (now (c .before .before .before .before .args .ids)) (c .before .before .before .before .args .id) (c .before .before .id .given .0 .0) (c .before .before .id .given .1) (c .if1 .left)
+returns-3 c = id-one (now (c .before .before .before .before .args .ids)) (c .before .before .before .before .args .id)
+    (c .before .before .id .given .0 .0) (c .before .before .id .given .1) (c .if1 .left)
 
 pub put-id-spec : {M : Type 1} → statement M
 put-id-spec =

@@ -7,6 +7,8 @@ use lib.ListN.{length, getD, drop, drop-of-length-le, List·getD-eq-default}
 use Rattle.reading.specs.declared.Rule.{Rule}
 use Rattle.reading.specs.declared.Marker.{Marker}
 use Rattle.reading.specs.Records.{values, recordList, ruleFrom, ruleList, markerFrom, markerList}
+use Rattle.reading.specs.Records.{actionAt, actionList, journalFrom, journalList}
+use Rattle.reading.specs.Walk.{noAction}
 
 module _ {A : Type 0} where
   pub length-values : (f : ℕ → A) (n : ℕ) → length (values f n) ≡ n
@@ -82,3 +84,28 @@ module _ (words : List ℕ) where
   pub markers-end : (i : ℕ) → length words / 3 ≤ i → drop i (markerList words) ≡ []
   unfolding markerList
   markers-end i h = records-end 3 markerFrom words i h
+
+  pub length-actions : length (actionList words) ≡ length words / 6
+  unfolding actionList
+  length-actions = length-records 6 actionAt words
+
+  pub action-is : (i : ℕ) → i < length words / 6 → getD (actionList words) i noAction ≡ actionAt words i
+  unfolding actionList
+  action-is i h = record-is 6 actionAt words i noAction h
+
+  pub action-behind : (i : ℕ) → length words / 6 ≤ i → getD (actionList words) i noAction ≡ noAction
+  unfolding actionList
+  action-behind i h = record-behind 6 actionAt words i noAction h
+
+  pub length-entries : length (journalList words) ≡ length words / 2
+  unfolding journalList
+  length-entries = length-records 2 journalFrom words
+
+  pub drop-entries : (i : ℕ) → i < length words / 2 → drop i (journalList words) ≡ journalFrom words i ∷ drop (suc i)
+      (journalList words)
+  unfolding journalList
+  drop-entries i h = drop-records 2 journalFrom words i h
+
+  pub entries-end : (i : ℕ) → length words / 2 ≤ i → drop i (journalList words) ≡ []
+  unfolding journalList
+  entries-end i h = records-end 2 journalFrom words i h

@@ -1,11 +1,11 @@
--- `visit::outcome_at` meets its contract.
+-- `ruleset::outcome_at` meets its contract.
 use mathlib.Core.Path.{sym}
 use denote.Ref.{now}
 use lib.ListN.{List·getD-eq-default}
 use borrow.Author.Needs.{needs}
 use borrow.Author.Needs.{needs}
-use Rattle.visit.proofs.outcome_at.Statement.{statement}
-use Rattle.visit.proofs.outcome_at.Tie as tie
+use Rattle.ruleset.proofs.outcome_at.Statement.{statement}
+use Rattle.ruleset.proofs.outcome_at.Tie as tie
 
 returns : tie.Need-returns
 returns c = sym (List·getD-eq-default (now (c .before .args .outcomes)) 0 {n = c .before .args .index} (c .if1 .taken))
