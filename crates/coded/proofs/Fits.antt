@@ -104,7 +104,7 @@ actions-grown q [] c = grown-same c
 actions-grown q (p ∷ ps) c =
     let d = applied c (record { phase = q .phase; position = p .position }) (directiveIn (q .text) p) in
     grown-then c d (actionControls q ps d)
-        (applied-grown c (record { phase = q .phase; position = p .position }) (directiveIn (q .text) p))
+    (applied-grown c (record { phase = q .phase; position = p .position }) (directiveIn (q .text) p))
     (actions-grown q ps d)
 
 rule-grows : (q : Call) (m : ℕ) (c : Controls) → Grown c (ruleControls q m c)
@@ -115,7 +115,7 @@ pub grows : (q : Call) (ms : List ℕ) (c : Controls) → Grown c (unitControls 
 grows q [] c = grown-same c
 grows q (m ∷ ms) c =
     grown-then c (ruleControls q m c) (unitControls q ms (ruleControls q m c)) (rule-grows q m c)
-        (grows q ms (ruleControls q m c))
+    (grows q ms (ruleControls q m c))
 
 -- THE RANGES OF A DIRECTIVE ARE THOSE OF ITS VALUE
 

@@ -114,7 +114,7 @@ module _ (source : Source) (codes : List ℕ) (c r : Controls) (s : Settings) (i
   next y e =
       let step : appliedCodes source i (getD codes i 0 ∷ slice (i + 1) end codes) (withSettings (controlsOf r) s) ≡ whole
       = sym (ap (λ (l : List ℕ). appliedCodes source i l (withSettings (controlsOf r) s)) (codes-from codes i end h k)) ∙ going
-          .rest in
+      .rest in
       ap (λ (j : ℕ). appliedCodes source j (slice (i + 1) end codes) y) (add-one i)
       ∙ (ap (appliedCodes source (suc i) (slice (i + 1) end codes)) (sym e) ∙ step)
 
@@ -131,14 +131,20 @@ module _ (source : Source) (codes : List ℕ) (c r : Controls) (s : Settings) (i
 
   pub going-added : (added r′ : Controls) (s′ : Settings) → s′ ≡ settingsAfter (getD codes i 0) s → 10 ≤ getD codes i 0
       → Became r added (addedBy here value (getD codes i 0) (controlsOf r)) → r′ ≡ added → Going source codes c r′ s′ (i + 1) end
-          whole
+      whole
   going-added added r′ s′ is l b e =
       let g = added-grown here value (getD codes i 0) (controlsOf r) in
       let both = became-then (going .kept) b (g .ranges) (g .targets) in
       subst (λ (x : Controls). Going source codes c x s′ (i + 1) end whole) (sym e)
       (record {
-        kept = record { meaning = refl; starts = both .starts; ends = both .ends; phases = both .phases; positions = both
-            .positions };
+        kept = record {
+          meaning = refl;
+          starts = both .starts;
+          ends = both .ends;
+          phases = both .phases;
+          positions = both
+              .positions;
+        };
         rest = next (withSettings (controlsOf added) s′)
             (coded-added here value (getD codes i 0) (controlsOf r) s l
             ∙ (ap (λ (x : reading.Controls). withSettings x (settingsAfter (getD codes i 0) s)) (sym (b .meaning))

@@ -181,6 +181,6 @@ module _ (c r : held.Controls) (code : ℕ) where
 
   pub became-added : (code ≡ 10 → ⊥) → (at : Place) (value : List ℕ)
       → Became c r (withAllRanges (controlsOf c) (rangesOf (removalValue (trim value)))) → Became c r
-          (addedBy at value code (controlsOf c))
+      (addedBy at value code (controlsOf c))
   unfolding addedBy
   became-added e at value b = rw (ne-eqb code 10 e) b

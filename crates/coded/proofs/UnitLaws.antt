@@ -58,7 +58,7 @@ module _ (codes : List ℕ) (rules : List Rule) (words : List ℕ) (i : ℕ) (t 
     where
       go : (v : Bool)
           → ((v && ruleChanges codes (getD rules (getD words (2 * i) 0) noRule)) || unitChanges codes rules
-              (membersFrom words (i + 1)))
+          (membersFrom words (i + 1)))
           ≡ unitChanges codes rules (keep v (getD words (2 * i) 0 ∷ []) ++ membersFrom words (i + 1))
       go true = refl
       go false = refl
@@ -93,7 +93,7 @@ module _ (source : Source) (codes : List ℕ) (rules : List Rule) (words : List 
   -- the members from entry i on are those of a list
   rest-of : (ms : List ℕ) → membersFrom words i ≡ ms
       → unitCoded source codes rules ms (controlsOf r) ≡ unitCoded source codes rules (matchedIn (journalList words))
-          (controlsOf c)
+      (controlsOf c)
   rest-of ms e = ap (λ (l : List ℕ). unitCoded source codes rules l (controlsOf r)) (sym e) ∙ across .rest
 
   -- r′ is what the turn leaves
@@ -113,8 +113,14 @@ module _ (source : Source) (codes : List ℕ) (rules : List Rule) (words : List 
       = b .meaning ∙ ap (λ (a : Rule). ruleCoded source codes a (controlsOf r)) is in
       subst (λ (x : Controls). Across source codes rules words c x (i + 1)) (sym e)
       (record {
-        kept = record { meaning = refl; starts = both .starts; ends = both .ends; phases = both .phases; positions = both
-            .positions };
+        kept = record {
+          meaning = refl;
+          starts = both .starts;
+          ends = both .ends;
+          phases = both .phases;
+          positions = both
+              .positions;
+        };
         rest = ap (unitCoded source codes rules (membersFrom words (i + 1))) by
             ∙ rest-of (getD words (2 * i) 0 ∷ membersFrom words (i + 1)) (member-here words i h n);
       })

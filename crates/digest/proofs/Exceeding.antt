@@ -64,7 +64,7 @@ module _ (w : ℕ → ℕ) (all rules : List ℕ) (held limit : ℕ) where
       pub left-end : length rules / 5 ≤ i → false ≡ ltb limit (held + total (ruleWeight w (take 4096 all)) (ruleList rules))
       left-end h =
           let whole : take i (ruleList rules) ≡ ruleList rules = take-all i (ruleList rules) (omega (arith, length-rules rules))
-              in
+          in
           let a : held + total (ruleWeight w (take n all)) (ruleList rules) ≤ limit
           = omega (arith, so .sum, ap (total (ruleWeight w (take n all))) whole) in
           rw (← first-codes) (sym (le-ltb limit _ a))

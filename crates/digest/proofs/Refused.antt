@@ -147,7 +147,7 @@ coded-all : (q : Call) → Coded q (codesOf (q .text) (q .actions))
 coded-all q w z r =
     let code = codeAt (q .text) in
     let part : take (r .count) (drop (r .first) (map code (q .actions))) ≡ map code
-        (take (r .count) (drop (r .first) (q .actions)))
+    (take (r .count) (drop (r .first) (q .actions)))
     = ap (take (r .count)) (drop-map code (r .first) (q .actions)) ∙ take-map code (r .count) (drop (r .first) (q .actions)) in
     ap (total w) part ∙ total-map code w (take (r .count) (drop (r .first) (q .actions)))
 

@@ -31,7 +31,7 @@ module _ (text : List ℕ) (actions : List Action) (found : List ℕ) where
       let here : length new ≡ i = length-map (take i actions) (codeAt text) ∙ length-take-le i actions (omega arith) in
       let longer : codesOf text (take (i + 1) actions) ≡ new ++ v ∷ []
       = rw (add-one, take-suc actions i noAction, is) (map-append (codeAt text) (take i actions) (getD actions i noAction ∷ []))
-          in
+      in
       ap (λ (l : List ℕ). set l i v) so
       ∙ (ap (λ (k : ℕ). set (fitting found new) k v) (sym here)
       ∙ (fitting-more found new v ∙ ap (fitting found) (sym longer)))

@@ -62,8 +62,12 @@ module _ (words : List ℕ) (k : ℕ) (h : k < length words / 2) where
   pub closer-no : (getD words (2 * k + 1) 0 ≡ 1 → ⊥)
       → closerOf (matchedIn (take k (journalList words))) ≡ closerOf (matchedIn (take (k + 1) (journalList words)))
   closer-no e =
-      rw (one-more, matched-append (take k (journalList words)) (journalFrom words k ∷ []), ne-eqb (getD words (2 * k + 1) 0) 1 e,
-          append-nil)
+      rw (
+        one-more,
+        matched-append (take k (journalList words)) (journalFrom words k ∷ []),
+        ne-eqb (getD words (2 * k + 1) 0) 1 e,
+        append-nil,
+      )
 
 pub closer-all : (words : List ℕ) → closerOf (matchedIn (take (length words / 2) (journalList words))) ≡ closerOf
     (matchedIn (journalList words))

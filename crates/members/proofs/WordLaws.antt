@@ -149,5 +149,5 @@ data-free-end used words es h =
     let left : List ℕ = drop (4 * used) words in
     data-take used words (over left (dataWords es)) (omega arith)
     ∙ ap (λ (l : List DataEntry). take used (dataList words) ++ l)
-        (data-over left es (omega (arith, length-drop (4 * used) words)))
+    (data-over left es (omega (arith, length-drop (4 * used) words)))
     ∙ ap (λ (l : List DataEntry). take used (dataList words) ++ over l es) (data-drop used words (omega arith))

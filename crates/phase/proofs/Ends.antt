@@ -95,27 +95,27 @@ module _ (q : Call) (reading : q .reading ≡ rust) (st : State) (chained : Bool
 module _ (q : Call) (reading : q .reading ≡ rust) (ms : List ℕ) (c : Controls) (s : code.State) (visits : ℕ)
     (inside : s .next < ruleCount q)
     (found : Verdict) (found-is : found ≡ verdictAt q c (s .next)) (w : Visited) (w-is : w ≡ foundAt (q .rules) s visits found)
-        where
-  abbrev v : Visit
-  v = visitOf q reading ms c s visits inside found found-is w w-is
+  where
+    abbrev v : Visit
+    v = visitOf q reading ms c s visits inside found found-is w w-is
 
-  abbrev st : State
-  st = stateOf q reading ms c s visits inside found found-is w w-is
+    abbrev st : State
+    st = stateOf q reading ms c s visits inside found found-is w w-is
 
-  abbrev unitNow : List ℕ
-  unitNow = unitOf q reading ms c s visits inside found found-is w w-is
+    abbrev unitNow : List ℕ
+    unitNow = unitOf q reading ms c s visits inside found found-is w w-is
 
-  pub ending-is : (d : DisruptiveOutcome) → d ≡ cond (w .closes) (unitDisruptive q unitNow) DisruptiveOutcome.Nothing
-      → kindOf (v .ending) ≡ endBy found d (modeUnder q (v .after .controls))
-  ending-is d e =
-      let z = ending-by q reading st (s .chained) (entryBy s visits) found (isLink q (s .next)) d
-      (e ∙ ap (λ (x : Visited). cond (x .closes) (unitDisruptive q unitNow) DisruptiveOutcome.Nothing)
-          (code-is q reading ms c s visits inside found found-is w w-is)) in
-      rw (visit-is q reading ms c s visits inside found found-is w w-is) z
+    pub ending-is : (d : DisruptiveOutcome) → d ≡ cond (w .closes) (unitDisruptive q unitNow) DisruptiveOutcome.Nothing
+        → kindOf (v .ending) ≡ endBy found d (modeUnder q (v .after .controls))
+    ending-is d e =
+        let z = ending-by q reading st (s .chained) (entryBy s visits) found (isLink q (s .next)) d
+        (e ∙ ap (λ (x : Visited). cond (x .closes) (unitDisruptive q unitNow) DisruptiveOutcome.Nothing)
+        (code-is q reading ms c s visits inside found found-is w w-is)) in
+        rw (visit-is q reading ms c s visits inside found found-is w w-is) z
 
-  pub stopping-is : (i : Intervention) → (w .closes ≡ true → i ≡ unitIntervention q unitNow)
-      → interventionOr (v .ending) OptionIntervention.None ≡ stoppedBy (kindOf (v .ending)) i
-  stopping-is i e =
-      rw (visit-is q reading ms c s visits inside found found-is w w-is)
-      (stopping-by q reading st (s .chained) (entryBy s visits) found (isLink q (s .next)) i
-      (λ h. e (ap (λ (x : Visited). x .closes) (code-is q reading ms c s visits inside found found-is w w-is) ∙ h)))
+    pub stopping-is : (i : Intervention) → (w .closes ≡ true → i ≡ unitIntervention q unitNow)
+        → interventionOr (v .ending) OptionIntervention.None ≡ stoppedBy (kindOf (v .ending)) i
+    stopping-is i e =
+        rw (visit-is q reading ms c s visits inside found found-is w w-is)
+        (stopping-by q reading st (s .chained) (entryBy s visits) found (isLink q (s .next)) i
+        (λ h. e (ap (λ (x : Visited). x .closes) (code-is q reading ms c s visits inside found found-is w w-is) ∙ h)))

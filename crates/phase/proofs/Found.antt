@@ -35,7 +35,7 @@ false-true e = true-false (sym e)
 -- what the code finds of a rule is the definition's verdict, as long as all held ranges are in the arrays
 pub found-law : (q : Call) (c : held.Controls) (i : ℕ) (found : Verdict) → c .ranges ≤ 256
     → found ≡ cond (isRemoved (rangeList (min (c .ranges) 256) (c .starts) (c .ends)) (recordId (getD (q .rules) i noRule)))
-        Verdict.Removed (verdictBy (getD (q .outcomes) i 0))
+    Verdict.Removed (verdictBy (getD (q .outcomes) i 0))
     → found ≡ verdictAt q (controlsOf c) i
 unfolding verdictAt idAt ruleAt outcomeAt controlsOf
 found-law q c i found h e = let z : min (c .ranges) 256 ≡ c .ranges = omega arith in rw z at e
@@ -82,7 +82,7 @@ module _ (q : Call) (reading : q .reading ≡ rust) (st : State) (chained : Bool
 
   next-by : (v : Verdict) (l : Bool)
       → visitBy q st v l .after .next ≡ cond (byCode v l .closes) (afterFlow q (byCode v l .after .next) (unitFlow q unit))
-          (byCode v l .after .next)
+      (byCode v l .after .next)
   next-by Verdict.Missed l = refl
   next-by Verdict.Matched true = sym (add-one (st .next))
   next-by Verdict.Matched false = rw (add-one (st .next))
@@ -129,58 +129,58 @@ module _ (q : Call) (reading : q .reading ≡ rust) (st : State) (chained : Bool
 module _ (q : Call) (reading : q .reading ≡ rust) (ms : List ℕ) (c : Controls) (s : code.State) (visits : ℕ)
     (inside : s .next < ruleCount q)
     (found : Verdict) (found-is : found ≡ verdictAt q c (s .next)) (w : Visited) (w-is : w ≡ foundAt (q .rules) s visits found)
-        where
-  abbrev pub stateOf : State
-  stateOf = record { next = s .next; members = ms; controls = c }
+  where
+    abbrev pub stateOf : State
+    stateOf = record { next = s .next; members = ms; controls = c }
 
-  abbrev pub visitOf : Visit
-  visitOf = visitAt q stateOf
+    abbrev pub visitOf : Visit
+    visitOf = visitAt q stateOf
 
-  abbrev pub unitOf : List ℕ
-  unitOf = ms ++ (s .next ∷ [])
+    abbrev pub unitOf : List ℕ
+    unitOf = ms ++ (s .next ∷ [])
 
-  abbrev byRule : Visited
-  byRule = foundBy (s .next + 1) (afterChain q (s .next)) (s .chained) (entryBy s visits) found (isLink q (s .next))
+    abbrev byRule : Visited
+    byRule = foundBy (s .next + 1) (afterChain q (s .next)) (s .chained) (entryBy s visits) found (isLink q (s .next))
 
-  pub code-is : w ≡ byRule
-  unfolding foundAt isLink ruleAt afterChain
-  code-is = w-is ∙ rw (lt-ltb (s .next) (ruleCount q) inside)
+    pub code-is : w ≡ byRule
+    unfolding foundAt isLink ruleAt afterChain
+    code-is = w-is ∙ rw (lt-ltb (s .next) (ruleCount q) inside)
 
-  pub visit-is : visitOf ≡ visitBy q stateOf found (isLink q (s .next))
-  unfolding visitAt
-  visit-is = rw found-is
+    pub visit-is : visitOf ≡ visitBy q stateOf found (isLink q (s .next))
+    unfolding visitAt
+    visit-is = rw found-is
 
-  pub entry-is : entryOf visitOf ≡ record { index = s .next; verdict = verdictNumber found }
-  unfolding visitAt
-  entry-is = rw visit-is (go found (isLink q (s .next)))
-    where
-      go : (v : Verdict) (l : Bool) → entryOf (visitBy q stateOf v l) ≡ record { index = s .next; verdict = verdictNumber v }
-      go Verdict.Missed l = refl
-      go Verdict.Matched true = refl
-      go Verdict.Matched false = refl
-      go Verdict.Removed true = refl
-      go Verdict.Removed false = refl
-      go Verdict.Error l = refl
+    pub entry-is : entryOf visitOf ≡ record { index = s .next; verdict = verdictNumber found }
+    unfolding visitAt
+    entry-is = rw visit-is (go found (isLink q (s .next)))
+      where
+        go : (v : Verdict) (l : Bool) → entryOf (visitBy q stateOf v l) ≡ record { index = s .next; verdict = verdictNumber v }
+        go Verdict.Missed l = refl
+        go Verdict.Matched true = refl
+        go Verdict.Matched false = refl
+        go Verdict.Removed true = refl
+        go Verdict.Removed false = refl
+        go Verdict.Error l = refl
 
-  pub closed-is : visitOf .closed ≡ keep (w .closes) (unitOf ∷ [])
-  closed-is = rw (visit-is, code-is) (closed-by q reading stateOf (s .chained) (entryBy s visits) found (isLink q (s .next)))
+    pub closed-is : visitOf .closed ≡ keep (w .closes) (unitOf ∷ [])
+    closed-is = rw (visit-is, code-is) (closed-by q reading stateOf (s .chained) (entryBy s visits) found (isLink q (s .next)))
 
-  pub controls-is : visitOf .after .controls ≡ cond (w .closes) (unitControls q unitOf c) c
-  controls-is = rw (visit-is, code-is) (controls-by q reading stateOf (s .chained) (entryBy s visits) found (isLink q (s .next)))
+    pub controls-is : visitOf .after .controls ≡ cond (w .closes) (unitControls q unitOf c) c
+    controls-is = rw (visit-is, code-is) (controls-by q reading stateOf (s .chained) (entryBy s visits) found (isLink q (s .next)))
 
-  pub next-is : visitOf .after .next ≡ cond (w .closes) (afterFlow q (w .after .next) (unitFlow q unitOf)) (w .after .next)
-  next-is = rw (visit-is, code-is) (next-by q reading stateOf (s .chained) (entryBy s visits) found (isLink q (s .next)))
+    pub next-is : visitOf .after .next ≡ cond (w .closes) (afterFlow q (w .after .next) (unitFlow q unitOf)) (w .after .next)
+    next-is = rw (visit-is, code-is) (next-by q reading stateOf (s .chained) (entryBy s visits) found (isLink q (s .next)))
 
-  pub first-is : w .after .first ≡ entryBy s visits
-  first-is = rw code-is (first-by q reading stateOf (s .chained) (entryBy s visits) found (isLink q (s .next)))
+    pub first-is : w .after .first ≡ entryBy s visits
+    first-is = rw code-is (first-by q reading stateOf (s .chained) (entryBy s visits) found (isLink q (s .next)))
 
-  pub closes-matched : w .closes ≡ true → found ≡ Verdict.Matched
-  closes-matched e =
-      matched-by q reading stateOf (s .chained) (entryBy s visits) found (isLink q (s .next))
-          (ap (λ (x : Visited). x .closes) (sym code-is) ∙ e)
+    pub closes-matched : w .closes ≡ true → found ≡ Verdict.Matched
+    closes-matched e =
+        matched-by q reading stateOf (s .chained) (entryBy s visits) found (isLink q (s .next))
+        (ap (λ (x : Visited). x .closes) (sym code-is) ∙ e)
 
-  pub members-are : (since : List ℕ) → since ≡ ms ++ keep (eqb (verdictNumber found) 1) (s .next ∷ [])
-      → (s .chained ≡ false → ms ≡ [])
-      → keep (w .after .chained) since ≡ visitOf .after .members
-  members-are since e h =
-      rw (visit-is, code-is) (members-by q reading stateOf (s .chained) (entryBy s visits) found (isLink q (s .next)) since e h)
+    pub members-are : (since : List ℕ) → since ≡ ms ++ keep (eqb (verdictNumber found) 1) (s .next ∷ [])
+        → (s .chained ≡ false → ms ≡ [])
+        → keep (w .after .chained) since ≡ visitOf .after .members
+    members-are since e h =
+        rw (visit-is, code-is) (members-by q reading stateOf (s .chained) (entryBy s visits) found (isLink q (s .next)) since e h)

@@ -85,7 +85,7 @@ pub sofar-none : (q : Call) (t : Transaction) (codes ids entries journal : List 
     (t .controls)
     → Ready q t codes ids entries journal
     → Sofar q t ids entries journal ids entries journal (t .controls) (record { next = 0; chained = false; first = 0 }) 0 (t .ids)
-        (t .entries)
+    (t .entries)
 sofar-none q t codes ids entries journal held ready =
     record {
       done = [];
@@ -117,13 +117,13 @@ module _ (q : Call) (t : Transaction) (codes ids₀ entries₀ journal₀ : List
   ids-room : length (idsOf q done) + length (idsOf q rest) ≤ ruleCount q
   ids-room =
       let z : length (idsOf q (visitsFrom q)) ≡ length (idsOf q done ++ idsOf q rest) = ap length
-          (ap (idsOf q) whole ∙ ids-append q done rest) in
+      (ap (idsOf q) whole ∙ ids-append q done rest) in
       omega (arith, length-append (idsOf q done) (idsOf q rest), ready .ids-few)
 
   data-room : length (dataOf q done) + length (dataOf q rest) ≤ ruleCount q
   data-room =
       let z : length (dataOf q (visitsFrom q)) ≡ length (dataOf q done ++ dataOf q rest) = ap length
-          (ap (dataOf q) whole ∙ data-append q done rest) in
+      (ap (dataOf q) whole ∙ data-append q done rest) in
       omega (arith, length-append (dataOf q done) (dataOf q rest), ready .data-few)
 
   module _ (ids entries journal : List ℕ) (visits listed written : ℕ)
@@ -162,7 +162,7 @@ module _ (q : Call) (t : Transaction) (codes ids₀ entries₀ journal₀ : List
     pub journal-length : length journal ≡ length journal₀
     journal-length =
         rw (w .journal-is) (whole-length (journalWords (journalOf done)) journal₀ (2 * visits) journal-done
-            (omega (arith, journal-inside)))
+        (omega (arith, journal-inside)))
 
     pub ids-length : length ids ≡ length ids₀
     ids-length =
@@ -172,7 +172,7 @@ module _ (q : Call) (t : Transaction) (codes ids₀ entries₀ journal₀ : List
     entries-length =
         rw (w .entries-are)
         (whole-length (take (4 * t .entries) entries₀ ++ dataWords (dataOf q done)) entries₀ (4 * written) entries-done
-            (omega (arith, entries-inside)))
+        (omega (arith, entries-inside)))
 
 -- the lists at the head of a turn, and the ranges that are held
 module _ (q : Call) (t : Transaction) (codes ids₀ entries₀ journal₀ : List ℕ) (ready : Ready q t codes ids₀ entries₀ journal₀)
@@ -184,7 +184,7 @@ module _ (q : Call) (t : Transaction) (codes ids₀ entries₀ journal₀ : List
   pub journal-same : length journal ≡ length journal₀
   journal-same =
       journal-length q t codes ids₀ entries₀ journal₀ ready (so .done) left (so .whole) ids entries journal visits listed written
-          (so .lists)
+      (so .lists)
 
   pub ids-same : length ids ≡ length ids₀
   ids-same = ids-length q t codes ids₀ entries₀ journal₀ ready (so .done) left (so .whole) ids entries journal visits listed
@@ -193,7 +193,7 @@ module _ (q : Call) (t : Transaction) (codes ids₀ entries₀ journal₀ : List
   pub entries-same : length entries ≡ length entries₀
   entries-same =
       entries-length q t codes ids₀ entries₀ journal₀ ready (so .done) left (so .whole) ids entries journal visits listed written
-          (so .lists)
+      (so .lists)
 
   pub few-ranges : c .ranges ≤ 256
   few-ranges =
@@ -201,11 +201,11 @@ module _ (q : Call) (t : Transaction) (codes ids₀ entries₀ journal₀ : List
       let z : controlsAfter (controlsOf (t .controls)) (visitsFrom q) ≡ controlsAfter (controlsOf c) left =
       ap (controlsAfter (controlsOf (t .controls))) (so .whole)
       ∙ (controls-append (controlsOf (t .controls)) (so .done) left ∙ ap (λ (x : reading.Controls). controlsAfter x left) (sym m))
-          in
+      in
       let g : Grown (controlsOf c) (controlsAfter (controlsOf (t .controls)) (visitsFrom q)) =
       rw z (walk-grows (ruleCount q - visits) q (record { next = s .next; members = so .members; controls = controlsOf c })) in
       let l : length (controlsOf c .ranges) ≡ length (controlsAfter (controlsOf (t .controls)) (so .done) .ranges) = ap
-          (λ (x : reading.Controls). length (x .ranges)) m in
+      (λ (x : reading.Controls). length (x .ranges)) m in
       omega (arith, became-ranges (so .controls), g .ranges, ready .ranges, l)
 
 -- THE END
@@ -231,11 +231,11 @@ finished q t ids₀ entries₀ journal₀ ids entries journal c visits listed wr
       ids-listed =
           rw (w .ids-are, w .listed-is, ← drop-drop (length (idsOf q (visitsFrom q))) (t .ids) ids₀)
           (append-assoc (take (t .ids) ids₀) (idsOf q (visitsFrom q))
-              (drop (length (idsOf q (visitsFrom q))) (drop (t .ids) ids₀)));
+          (drop (length (idsOf q (visitsFrom q))) (drop (t .ids) ids₀)));
       data-numbers =
           let d = dataWords (dataOf q (visitsFrom q)) in
           let n : 4 * written ≡ 4 * t .entries + length d = omega
-              (arith, length-data-words (dataOf q (visitsFrom q)), w .written-is) in
+          (arith, length-data-words (dataOf q (visitsFrom q)), w .written-is) in
           rw (w .entries-are, n, ← drop-drop (length d) (4 * t .entries) entries₀)
           (append-assoc (take (4 * t .entries) entries₀) d (drop (length d) (drop (4 * t .entries) entries₀)));
       ids-used = w .listed-is;
@@ -249,11 +249,11 @@ pub sofar-end : (q : Call) (t : Transaction) (ids₀ entries₀ journal₀ ids e
     (visits listed written : ℕ)
     → Sofar q t ids₀ entries₀ journal₀ ids entries journal c s visits listed written → ruleCount q ≤ s .next
     → Walked q t ids₀ entries₀ journal₀ (endedBy Ending.GoesOn 0 visits listed written OptionIntervention.None c) ids entries
-        journal
+    journal
 sofar-end q t ids₀ entries₀ journal₀ ids entries journal c s visits listed written so h =
     let e : visitsFrom q ≡ so .done ++ [] =
     rw (← walk-end (ruleCount q - visits) q (record { next = s .next; members = so .members; controls = controlsOf c }) h)
-        (so .whole) in
+    (so .whole) in
     let d : visitsFrom q ≡ so .done = e ∙ append-nil (so .done) in
     finished q t ids₀ entries₀ journal₀ ids entries journal c visits listed written 0 Ending.GoesOn OptionIntervention.None
     (rw d (so .lists))

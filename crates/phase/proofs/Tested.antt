@@ -183,4 +183,4 @@ module _ (g : Given) where
         ran-walked (g .phase) (g .mode) (g .status) (g .rules) (g .actions) (g .markers) (g .text) (g .outcomes)
         (g .t) (g .ids) (g .entries) (g .journal) a h r ids entries journal
         (subst (λ (x : Transaction). Walked (callWith x) x (g .ids) (g .entries) (g .journal) r ids entries journal) (sym is-new)
-            w)
+        w)

@@ -47,12 +47,12 @@ walk-off (suc k) q st h = rw (h, not-visited (ltb (st .next) (ruleCount q)))
 -- it does not matter how far behind the last rule the walk stands
 pub walk-clip : (k : ℕ) (q : Call) (next : ℕ) (ms : List ℕ) (c : Controls)
     → walk k q (record { next = min next (ruleCount q); members = ms; controls = c }) ≡ walk k q
-        (record { next = next; members = ms; controls = c })
+    (record { next = next; members = ms; controls = c })
 walk-clip k q next ms c = go (ltb next (ruleCount q)) refl
   where
     go : (b : Bool) → ltb next (ruleCount q) ≡ b
         → walk k q (record { next = min next (ruleCount q); members = ms; controls = c }) ≡ walk k q
-            (record { next = next; members = ms; controls = c })
+        (record { next = next; members = ms; controls = c })
     go true e = let z : min next (ruleCount q) ≡ next = omega (arith, ltb-true next (ruleCount q) e) in rw z
     go false e =
         let l : ruleCount q ≤ next = ltb-false next (ruleCount q) e in

@@ -31,8 +31,16 @@ module _ {q : Call} {phase mode : ℕ} {rules actions markers text outcomes : Li
       → b ≡ t → refused2 q ≡ t
   unfolding refused2
   says-2 h e =
-      rw (l .rules-are, l .actions-are, l .markers-are, l .text-is, length-rules rules, length-actions actions, length-markers
-          markers)
+      rw (
+        l .rules-are,
+        l .actions-are,
+        l .markers-are,
+        l .text-is,
+        length-rules rules,
+        length-actions actions,
+        length-markers
+            markers,
+      )
       (sym h ∙ e)
 
   pub says-3 : {b t : Bool}

@@ -31,7 +31,7 @@ module _ (phase : ℕ) (rules actions markers text outcomes members : List ℕ) 
 
   pub open-still : closes ≡ false
       → Wrote q closes unit behind ids entries
-          (record { ids = 0; entries = 0; next = behind; disruptive = DisruptiveOutcome.Nothing }) ids entries
+      (record { ids = 0; entries = 0; next = behind; disruptive = DisruptiveOutcome.Nothing }) ids entries
   open-still e =
       let n : _≡_ {A = List ℕ} (take (length ids) []) [] = take-nil (length ids) in
       let m : _≡_ {A = List DataEntry} (take (length entries / 4) []) [] = take-nil (length entries / 4) in
@@ -66,10 +66,10 @@ module _ (phase : ℕ) (rules actions markers text outcomes members : List ℕ) 
         → listed ≡ length (take (length ids) (listOf id)) → ids′ ≡ over ids (take (length ids) (listOf id))
         → Listed (gather (memberEntry phase id (ruleList rules) outcomes) unit) entries written entries′
         → flow ≡ lastFlow (actionsOf (actionList actions) rule) → disruptive ≡ lastDisruptive
-            (actionsOf (actionList actions) rule)
+        (actionsOf (actionList actions) rule)
         → next ≡ min (afterFlow q behind flow) (ruleCount q)
         → Wrote q closes unit behind ids entries
-            (record { ids = listed; entries = written; next = next; disruptive = disruptive }) ids′ entries′
+        (record { ids = listed; entries = written; next = next; disruptive = disruptive }) ids′ entries′
     closed-now listed written next flow disruptive ids′ entries′ a b l f d n =
         record {
           id-count = rw (taken, ← starter-id) a;

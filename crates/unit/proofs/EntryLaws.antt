@@ -111,7 +111,7 @@ module _ (all : List DataEntry) (old : List ℕ) where
   sofar-start =
       let z : room - 0 ≡ room = omega arith in
       let l : length (dataWords (take room all)) ≤ length old = omega (arith, length-data (take room all), length-take room all)
-          in
+      in
       rw z (filled-start (dataWords (take room all)) old l)
 
   pub sofar-more : (todo new rest : List DataEntry) (cur cur′ : List ℕ) (w w′ : ℕ) → todo ≡ new ++ rest → length new ≤ 1
@@ -128,13 +128,13 @@ module _ (all : List DataEntry) (old : List ℕ) where
       let g = filled-put (dataWords fit) (dataWords (take room all)) (dataWords (take (room - w′) rest)) old cur (4 * w) f in
       let k : 4 * w + length (dataWords fit) ≡ 4 * w′ = omega (arith, length-data fit, n) in
       let c : cur′ ≡ sets cur (4 * w) (dataWords fit) = p .words ∙ ap (λ (l : List DataEntry). sets cur (4 * w) (dataWords l))
-          same in
+      same in
       rw c (rw k at g)
 
   pub sofar-end : (cur : List ℕ) (w : ℕ) → Sofar all [] old cur w → Listed all old w cur
   sofar-end cur w s =
       let f = subst (λ (l : List DataEntry). Filled (dataWords (take room all)) (dataWords l) old cur (4 * w))
-          (take-nil (room - w)) s in
+      (take-nil (room - w)) s in
       let a : take (4 * w) cur ≡ dataWords (take room all) = sym (append-nil (take (4 * w) cur)) ∙ f .written in
       let l : 4 * w ≡ 4 * length (take room all)
       = sym (length-take-le (4 * w) cur (omega (arith, f .room))) ∙ (ap length a ∙ length-data (take room all)) in

@@ -13,7 +13,7 @@ use Rattle.coded.proofs.changes.Tie as tie
 abbrev Inv-loop : tie.InvT-loop
 Inv-loop closes entries rules codes n i₀ i =
     (i ≤ n) × (unitChanges codes (ruleList rules) (membersFrom entries i) ≡ unitChanges codes (ruleList rules)
-        (matchedIn (journalList entries)))
+    (matchedIn (journalList entries)))
 
 abbrev μ-loop : tie.MeasureT-loop
 μ-loop closes entries rules codes n i₀ i = n - i
@@ -77,7 +77,7 @@ returns-3 c =
     let given = l .before .before .before .before .before .args in
     rw (not-false (given .closes) (l .before .if1 .left))
     (sym (ap (unitChanges (given .codes .now) (ruleList (given .rules .now))) (members-end _ (l .loop .i) (omega arith))) ∙ l
-        .loop .inv .1)
+    .loop .inv .1)
 
 pub changes-spec : {M : Type 1} → statement M
 changes-spec =

@@ -49,7 +49,7 @@ loop-again c =
     let codes = l .before .before .before .args .codes .now in
     let end : l .before .codes-end .result ≤ length codes = omega (arith, l .before .codes-end .ensures) in
     let more = changes-more codes (l .loop .i) (l .before .codes-end .result) _ (omega arith) end (l .loop .inv .2) (c .if1 .left)
-        in
+    in
     (omega arith, omega arith, more)
 
 returns-2 : tie.Need-returns-2 Inv-loop μ-loop

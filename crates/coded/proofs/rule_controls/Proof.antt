@@ -16,7 +16,7 @@ Inv-loop actions text codes phase first end r₀ s₀ i₀ r s i =
     (first ≤ i) × (i ≤ end)
     × Going (record { phase = phase; text = text; actions = actionList actions }) codes r₀ r s i end
     (appliedCodes (record { phase = phase; text = text; actions = actionList actions }) first (slice first end codes)
-        (controlsOf r₀))
+    (controlsOf r₀))
 
 abbrev μ-loop : tie.MeasureT-loop
 μ-loop actions text codes phase first end r₀ s₀ i₀ r s i = end - i
@@ -50,7 +50,7 @@ loop-again c =
     let l = c .before .before .before .before in
     let end = l .before .before .codes-end in
     let inside : end .result ≤ length (l .before .before .before .before .before .before .args .codes .now) = omega
-        (arith, end .ensures) in (
+    (arith, end .ensures) in (
       omega arith,
       omega arith,
       ⊎-elim

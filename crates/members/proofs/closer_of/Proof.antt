@@ -51,8 +51,8 @@ returns c = let k = c .before .before .before .before .loop .k in
     let l : k - 1 + 1 ≡ k = omega (arith, c .before .before .before .loop-test .taken) in
     let w = now (c .before .before .before .before .before .args .entries) in
     let y = closer-yes w (k - 1)
-        (omega (arith, c .before .before .before .loop-test .taken, c .before .before .before .before .loop .inv .1))
-        (c .before .if1 .taken) in
+    (omega (arith, c .before .before .before .loop-test .taken, c .before .before .before .before .loop .inv .1))
+    (c .before .if1 .taken) in
     sym (rw l at y) ∙ c .before .before .before .before .loop .inv .0
 
 loop-less : tie.Need-loop-less Inv-loop μ-loop
@@ -63,13 +63,13 @@ loop-again c = let k = c .before .before .before .loop .k in
     let l : k - 1 + 1 ≡ k = omega (arith, c .before .before .loop-test .taken) in
     let w = now (c .before .before .before .before .args .entries) in
     let y = closer-no w (k - 1) (omega (arith, c .before .before .loop-test .taken, c .before .before .before .loop .inv .1))
-        (c .if1 .left) in
+    (c .if1 .left) in
     ((rw l at y) ∙ c .before .before .before .loop .inv .0, omega (arith, c .before .before .before .loop .inv .1))
 
 returns-2 : tie.Need-returns-2 Inv-loop μ-loop
 returns-2 c = let z : c .before .loop .k ≡ 0 = omega (arith, c .loop-test .left) in
     sym (ap (λ (n : ℕ). closerOf (matchedIn (take n (journalList (now (c .before .before .args .entries)))))) z) ∙ c .before .loop
-        .inv .0
+    .inv .0
 
 pub closer-of-spec : {M : Type 1} → statement M
 closer-of-spec =

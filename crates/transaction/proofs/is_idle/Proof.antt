@@ -17,8 +17,12 @@ returns-3 : tie.Need-returns-3
 returns-3 c = search needs
 
 returns-4 : tie.Need-returns-4
-returns-4 c = rw (c .before .before .before .if1 .left, c .before .before .if2 .left, sym (c .before .is-off .ensures) ∙ c .if3
-    .left)
+returns-4 c = rw (
+  c .before .before .before .if1 .left,
+  c .before .before .if2 .left,
+  sym (c .before .is-off .ensures) ∙ c .if3
+      .left,
+)
 
 pub is-idle-spec : {M : Type 1} → statement M
 is-idle-spec = tie.close (tie.spec returns returns-2 is-off-requires returns-3 returns-4)

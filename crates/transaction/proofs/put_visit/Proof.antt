@@ -26,7 +26,7 @@ returns : tie.Need-returns
 returns c = put-two (now (c .before .before .args .journal)) (c .before .before .args .index) (c .verdict-number .result)
     (c .before .before .pre)
     ∙ ap (λ (n : ℕ). over (now (c .before .before .args .journal)) (c .before .before .args .index ∷ n ∷ []))
-        (c .verdict-number .ensures)
+    (c .verdict-number .ensures)
 
 pub put-visit-spec : {M : Type 1} → statement M
 put-visit-spec =

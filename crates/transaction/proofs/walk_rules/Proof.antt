@@ -15,7 +15,7 @@ use Rattle.reading.specs.Walk.{verdictAt, visitAt}
 use Rattle.control.specs.Held.{controlsOf, Became}
 use Rattle.intervention.specs.Ends.{endBy}
 use Rattle.members.specs.Given.{Rest}
-use Rattle.ruleset.proofs.RecordLaws.{length-rules}
+use Rattle.text.proofs.RecordLaws.{length-rules}
 use Rattle.phase.specs.declared.Transaction.{Transaction}
 use Rattle.phase.specs.Phase.{callOf}
 use Rattle.phase.specs.Walked.{fresh, isGoing, Ready}
@@ -43,7 +43,7 @@ Inv-loop listed-before written-before phase mode status rules actions markers te
     ruleset-mode n c₀ s₀ visits₀ listed₀ written₀ ids entries journal c s visits listed written = let t = fresh c₀ listed₀
     written₀ in
     Sofar (callOf phase mode status rules actions markers text outcomes t ids₀ entries₀ journal₀) t ids₀ entries₀ journal₀ ids
-        entries journal c s visits listed written
+    entries journal c s visits listed written
 
 abbrev μ-loop : tie.MeasureT-loop
 μ-loop listed-before written-before phase mode status rules actions markers text outcomes codes ids₀ entries₀ journal₀
@@ -76,11 +76,11 @@ abbrev Q : (c : tie.At-loop Inv-loop μ-loop) → Call
 Q c =
     let a = entered c .args in
     callOf (a .phase) (a .mode) (a .status) (now (a .rules)) (now (a .actions)) (now (a .markers)) (now (a .text))
-        (now (a .outcomes)) (T c) (now (a .ids)) (now (a .entries)) (now (a .journal))
+    (now (a .outcomes)) (T c) (now (a .ids)) (now (a .entries)) (now (a .journal))
 
 ready : (c : tie.At-loop Inv-loop μ-loop)
     → Ready (Q c) (T c) (now (entered c .args .codes)) (now (entered c .args .ids)) (now (entered c .args .entries))
-        (now (entered c .args .journal))
+    (now (entered c .args .journal))
 ready c = entered c .pre
 
 inside : (c : tie.Then1 Inv-loop μ-loop) → c .before .before .loop .s .next < ruleCount (Q (c .before .before))
@@ -90,30 +90,30 @@ inside c = omega (arith, c .if1 .taken, length-rules (now (entered (c .before .b
 journal-as-lent : (c : tie.At-loop Inv-loop μ-loop) → length (c .loop .journal) ≡ length (now (entered c .args .journal))
 journal-as-lent c =
     journal-same (Q c) (T c) (now (entered c .args .codes)) (now (entered c .args .ids)) (now (entered c .args .entries))
-        (now (entered c .args .journal)) (ready c)
+    (now (entered c .args .journal)) (ready c)
     (c .loop .ids) (c .loop .entries) (c .loop .journal) (c .loop .c) (c .loop .s) (c .loop .visits) (c .loop .listed)
-        (c .loop .written) (c .loop .inv)
+    (c .loop .written) (c .loop .inv)
 
 ids-as-lent : (c : tie.At-loop Inv-loop μ-loop) → length (c .loop .ids) ≡ length (now (entered c .args .ids))
 ids-as-lent c =
     ids-same (Q c) (T c) (now (entered c .args .codes)) (now (entered c .args .ids)) (now (entered c .args .entries))
-        (now (entered c .args .journal)) (ready c)
+    (now (entered c .args .journal)) (ready c)
     (c .loop .ids) (c .loop .entries) (c .loop .journal) (c .loop .c) (c .loop .s) (c .loop .visits) (c .loop .listed)
-        (c .loop .written) (c .loop .inv)
+    (c .loop .written) (c .loop .inv)
 
 entries-as-lent : (c : tie.At-loop Inv-loop μ-loop) → length (c .loop .entries) ≡ length (now (entered c .args .entries))
 entries-as-lent c =
     entries-same (Q c) (T c) (now (entered c .args .codes)) (now (entered c .args .ids)) (now (entered c .args .entries))
-        (now (entered c .args .journal)) (ready c)
+    (now (entered c .args .journal)) (ready c)
     (c .loop .ids) (c .loop .entries) (c .loop .journal) (c .loop .c) (c .loop .s) (c .loop .visits) (c .loop .listed)
-        (c .loop .written) (c .loop .inv)
+    (c .loop .written) (c .loop .inv)
 
 ranges-fit : (c : tie.At-loop Inv-loop μ-loop) → c .loop .c .ranges ≤ 256
 ranges-fit c =
     few-ranges (Q c) (T c) (now (entered c .args .codes)) (now (entered c .args .ids)) (now (entered c .args .entries))
-        (now (entered c .args .journal)) (ready c)
+    (now (entered c .args .journal)) (ready c)
     (c .loop .ids) (c .loop .entries) (c .loop .journal) (c .loop .c) (c .loop .s) (c .loop .visits) (c .loop .listed)
-        (c .loop .written) (c .loop .inv)
+    (c .loop .written) (c .loop .inv)
 
 found-is : (c : tie.After-verdict-at Inv-loop μ-loop) → c .verdict-at .result ≡ verdictAt
     (Q (c .before .before .before .before .before .before))
@@ -121,11 +121,11 @@ found-is : (c : tie.After-verdict-at Inv-loop μ-loop) → c .verdict-at .result
     (c .before .before .before .before .before .before .loop .s .next)
 found-is c =
     found-law (Q (c .before .before .before .before .before .before)) (c .before .before .before .before .before .before .loop .c)
-        (c .before .before .before .before .before .before .loop .s .next) (c .verdict-at .result)
-        (ranges-fit (c .before .before .before .before .before .before)) (c .verdict-at .ensures)
+    (c .before .before .before .before .before .before .loop .s .next) (c .verdict-at .result)
+    (ranges-fit (c .before .before .before .before .before .before)) (c .verdict-at .ensures)
 
 -- what is known where the turn's rule has been visited
-turn : (c : tie.After-visit Inv-loop μ-loop) → Turning
+abbrev turn : (c : tie.After-visit Inv-loop μ-loop) → Turning
 turn c = record {
   q = Q (head c);
   t = T (head c);
@@ -154,8 +154,12 @@ turn c = record {
 -- room in the lists
 journal-small : (c : tie.After-visit Inv-loop μ-loop) → 8 * (2 * head c .loop .visits + 2) < 2 ^ 64
 journal-small c =
-    omega (arith, journal-next (turn c), journal-as-lent (head c),
-        (entered (head c) .good .1 .1 .1 .1 .1 .1 .1 .1 .1 .1 .1 .1 .1 .1 .0 .1))
+    omega (
+      arith,
+      journal-next (turn c),
+      journal-as-lent (head c),
+      (entered (head c) .good .1 .1 .1 .1 .1 .1 .1 .1 .1 .1 .1 .1 .1 .1 .0 .1),
+    )
 
 ids-small : (c : tie.After-visit Inv-loop μ-loop) → 8 * head c .loop .listed < 2 ^ 64
 ids-small c =
@@ -163,8 +167,12 @@ ids-small c =
 
 entries-small : (c : tie.After-visit Inv-loop μ-loop) → 8 * (4 * head c .loop .written) < 2 ^ 64
 entries-small c =
-    omega (arith, entries-start (turn c), entries-as-lent (head c),
-        (entered (head c) .good .1 .1 .1 .1 .1 .1 .1 .1 .1 .1 .1 .1 .1 .0 .1))
+    omega (
+      arith,
+      entries-start (turn c),
+      entries-as-lent (head c),
+      (entered (head c) .good .1 .1 .1 .1 .1 .1 .1 .1 .1 .1 .1 .1 .1 .0 .1),
+    )
 
 -- the part of the journal that the unit's functions are lent
 unit-from : (c : tie.After-put-visit Inv-loop μ-loop) → 2 * visited c .visit .result .after .first ≤ 2 *
@@ -174,8 +182,8 @@ unit-from c =
 
 unit-to : (c : tie.After-put-visit Inv-loop μ-loop) → 2 * (head (visited c) .loop .visits + 1)
     ≤ length (take (2 * head (visited c) .loop .visits) (head (visited c) .loop .journal) ++
-        (c .put-visit .last .1 .1 .0 ++ drop (length (head (visited c) .loop .journal) - 2 * head (visited c) .loop .visits)
-        (drop (2 * head (visited c) .loop .visits) (head (visited c) .loop .journal))))
+    (c .put-visit .last .1 .1 .0 ++ drop (length (head (visited c) .loop .journal) - 2 * head (visited c) .loop .visits)
+    (drop (2 * head (visited c) .loop .visits) (head (visited c) .loop .journal))))
 unit-to c =
     part-end (turn (visited c)) (c .put-visit .last .1 .1 .0) (c .put-visit .ensures)
 
@@ -187,24 +195,30 @@ unit-small c =
 listed-small : (c : tie.After-close-unit Inv-loop μ-loop) → head (visited (recorded c)) .loop .listed + c .close-unit .result .ids
     < 2 ^ 64
 listed-small c =
-    omega (arith, listed-room (turn (visited (recorded c))) (recorded c .put-visit .last .1 .1 .0)
-        (recorded c .put-visit .ensures)
-    (c .close-unit .result)
-    (c .close-unit .last .1 .1 .1 .1 .1 .1 .1 .1 .1 .0)
-    (c .close-unit .last .1 .1 .1 .1 .1 .1 .1 .1 .1 .1 .0)
-    (c .close-unit .ensures (restOf (Q (head (visited (recorded c)))))),
-        (entered (head (visited (recorded c))) .good .1 .1 .1 .1 .1 .1 .1 .1 .1 .1 .1 .1 .0 .1))
+    omega (
+      arith,
+      listed-room (turn (visited (recorded c))) (recorded c .put-visit .last .1 .1 .0)
+          (recorded c .put-visit .ensures)
+          (c .close-unit .result)
+          (c .close-unit .last .1 .1 .1 .1 .1 .1 .1 .1 .1 .0)
+          (c .close-unit .last .1 .1 .1 .1 .1 .1 .1 .1 .1 .1 .0)
+          (c .close-unit .ensures (restOf (Q (head (visited (recorded c)))))),
+      (entered (head (visited (recorded c))) .good .1 .1 .1 .1 .1 .1 .1 .1 .1 .1 .1 .1 .0 .1),
+    )
 
 written-small : (c : tie.After-close-unit Inv-loop μ-loop) → head (visited (recorded c)) .loop .written + c .close-unit .result
     .entries < 2 ^ 64
 written-small c =
-    omega (arith, written-room (turn (visited (recorded c))) (recorded c .put-visit .last .1 .1 .0)
-        (recorded c .put-visit .ensures)
-    (c .close-unit .result)
-    (c .close-unit .last .1 .1 .1 .1 .1 .1 .1 .1 .1 .0)
-    (c .close-unit .last .1 .1 .1 .1 .1 .1 .1 .1 .1 .1 .0)
-    (c .close-unit .ensures (restOf (Q (head (visited (recorded c)))))),
-        (entered (head (visited (recorded c))) .good .1 .1 .1 .1 .1 .1 .1 .1 .1 .1 .1 .1 .1 .0 .1))
+    omega (
+      arith,
+      written-room (turn (visited (recorded c))) (recorded c .put-visit .last .1 .1 .0)
+          (recorded c .put-visit .ensures)
+          (c .close-unit .result)
+          (c .close-unit .last .1 .1 .1 .1 .1 .1 .1 .1 .1 .0)
+          (c .close-unit .last .1 .1 .1 .1 .1 .1 .1 .1 .1 .1 .0)
+          (c .close-unit .ensures (restOf (Q (head (visited (recorded c)))))),
+      (entered (head (visited (recorded c))) .good .1 .1 .1 .1 .1 .1 .1 .1 .1 .1 .1 .1 .1 .0 .1),
+    )
 
 goes-on : (c : tie.After-close-unit Inv-loop μ-loop) → head (visited (recorded c)) .loop .s .next < c .close-unit .result .next
 goes-on c =
@@ -217,15 +231,19 @@ goes-on c =
 -- the controls, the mode and the ending
 controls-now : (c : tie.Joined2 Inv-loop μ-loop) → Became (head (visited (recorded (closed c))) .loop .c) (c .if2 .c)
     (visitAt (Q (head (visited (recorded (closed c)))))
-        (record { next = head (visited (recorded (closed c))) .loop .s .next; members = head (visited (recorded (closed c))) .loop
-        .inv .members; controls = controlsOf (head (visited (recorded (closed c))) .loop .c) }) .after .controls)
+    (record {
+      next = head (visited (recorded (closed c))) .loop .s .next;
+      members = head (visited (recorded (closed c))) .loop
+          .inv .members;
+      controls = controlsOf (head (visited (recorded (closed c))) .loop .c);
+    }) .after .controls)
 controls-now c =
     ⊎-elim
     (λ w. changed-yes (turn (visited (recorded (closed c)))) (recorded (closed c) .put-visit .last .1 .1 .0)
-        (recorded (closed c) .put-visit .ensures)
+    (recorded (closed c) .put-visit .ensures)
     (c .before .changes .result) (c .if2 .c) (w .3 .result) (c .before .changes .ensures) (w .0 .taken) (w .4) (w .3 .ensures))
     (λ w. changed-no (turn (visited (recorded (closed c)))) (recorded (closed c) .put-visit .last .1 .1 .0)
-        (recorded (closed c) .put-visit .ensures)
+    (recorded (closed c) .put-visit .ensures)
     (c .before .changes .result) (c .if2 .c) (c .before .changes .ensures) (w .0 .left) (w .1))
     (c .if2 .came)
 
@@ -233,25 +251,25 @@ mode-is : (c : tie.After-mode-under Inv-loop μ-loop) → c .mode-under .result 
     (Q (head (visited (recorded (closed (c .before .before)))))) (controlsOf (c .before .before .if2 .c))
 mode-is c =
     mode-law (Q (head (visited (recorded (closed (c .before .before)))))) (c .before .before .if2 .c)
-        ((head (visited (recorded (closed (c .before .before))))) .before .mode-numbered .result) (c .mode-under .result)
-        ((head (visited (recorded (closed (c .before .before))))) .before .mode-numbered .ensures) (c .mode-under .ensures)
+    ((head (visited (recorded (closed (c .before .before))))) .before .mode-numbered .result) (c .mode-under .result)
+    ((head (visited (recorded (closed (c .before .before))))) .before .mode-numbered .ensures) (c .mode-under .ensures)
 
 end-is : (c : tie.After-end-of Inv-loop μ-loop)
     → c .end-of .result ≡ endBy ((visited (recorded (closed (c .before .before .before)))) .before .verdict-at .result)
-        (closed (c .before .before .before) .close-unit .result .disruptive)
-        (modeUnder (Q (head (visited (recorded (closed (c .before .before .before))))))
-        (controlsOf (c .before .before .before .if2 .c)))
+    (closed (c .before .before .before) .close-unit .result .disruptive)
+    (modeUnder (Q (head (visited (recorded (closed (c .before .before .before))))))
+    (controlsOf (c .before .before .before .if2 .c)))
 end-is c =
     c .end-of .ensures
     ∙ ap (endBy ((visited (recorded (closed (c .before .before .before)))) .before .verdict-at .result)
-        (closed (c .before .before .before) .close-unit .result .disruptive)) (mode-is (c .before))
+    (closed (c .before .before .before) .close-unit .result .disruptive)) (mode-is (c .before))
 
 last-by : (c : tie.After-is-last Inv-loop μ-loop) (b : Bool) → c .is-last .result ≡ b
     → (not (isGoing (c .before .end-of .result)) || isOff
-        (modeUnder (Q (head (visited (recorded (closed (settled c)))))) (controlsOf (settled c .if2 .c)))) ≡ b
+    (modeUnder (Q (head (visited (recorded (closed (settled c)))))) (controlsOf (settled c .if2 .c)))) ≡ b
 last-by c b e =
     ap (λ (m : RuleEngineMode). not (isGoing (c .before .end-of .result)) || isOff m) (sym (mode-is (c .before .before))) ∙
-        (sym (c .is-last .ensures) ∙ e)
+    (sym (c .is-last .ensures) ∙ e)
 
 mode-numbered-requires : tie.Need-mode-numbered-requires Inv-loop μ-loop
 mode-numbered-requires c κs = tt
@@ -260,9 +278,9 @@ loop-holds : tie.Need-loop-holds Inv-loop μ-loop
 loop-holds c = let a = c .before .before .before .before .before .before .before .before .before .before .args in
     let t = fresh (a .held) (a .listed-before) (a .written-before) in
     sofar-none (callOf (a .phase) (a .mode) (a .status) (now (a .rules)) (now (a .actions)) (now (a .markers)) (now (a .text))
-        (now (a .outcomes)) t (now (a .ids)) (now (a .entries)) (now (a .journal)))
+    (now (a .outcomes)) t (now (a .ids)) (now (a .entries)) (now (a .journal)))
     t (now (a .codes)) (now (a .ids)) (now (a .entries)) (now (a .journal)) refl
-        (c .before .before .before .before .before .before .before .before .before .before .pre)
+    (c .before .before .before .before .before .before .before .before .before .before .pre)
 
 verdict-at-requires : tie.Need-verdict-at-requires Inv-loop μ-loop
 verdict-at-requires c κs = tt
@@ -413,7 +431,7 @@ same-length c = ids-kept (turn (visited (recorded (closed (settled (c .before .b
     (closed (settled (c .before .before .before .before .before)) .close-unit .last .1 .1 .1 .1 .1 .1 .1 .1 .1 .0)
     (closed (settled (c .before .before .before .before .before)) .close-unit .last .1 .1 .1 .1 .1 .1 .1 .1 .1 .1 .0)
     (closed (settled (c .before .before .before .before .before)) .close-unit .ensures
-        (restOf (Q (head (visited (recorded (closed (settled (c .before .before .before .before .before)))))))))
+    (restOf (Q (head (visited (recorded (closed (settled (c .before .before .before .before .before)))))))))
 
 same-length-2 : tie.Need-same-length-2 Inv-loop μ-loop
 same-length-2 c = entries-kept (turn (visited (recorded (closed (settled (c .before .before .before .before .before))))))
@@ -423,7 +441,7 @@ same-length-2 c = entries-kept (turn (visited (recorded (closed (settled (c .bef
     (closed (settled (c .before .before .before .before .before)) .close-unit .last .1 .1 .1 .1 .1 .1 .1 .1 .1 .0)
     (closed (settled (c .before .before .before .before .before)) .close-unit .last .1 .1 .1 .1 .1 .1 .1 .1 .1 .1 .0)
     (closed (settled (c .before .before .before .before .before)) .close-unit .ensures
-        (restOf (Q (head (visited (recorded (closed (settled (c .before .before .before .before .before)))))))))
+    (restOf (Q (head (visited (recorded (closed (settled (c .before .before .before .before .before)))))))))
 
 same-length-3 : tie.Need-same-length-3 Inv-loop μ-loop
 same-length-3 c = journal-kept (turn (visited (recorded (closed (settled (c .before .before .before .before .before))))))
@@ -433,33 +451,37 @@ same-length-3 c = journal-kept (turn (visited (recorded (closed (settled (c .bef
     (closed (settled (c .before .before .before .before .before)) .close-unit .last .1 .1 .1 .1 .1 .1 .1 .1 .1 .0)
     (closed (settled (c .before .before .before .before .before)) .close-unit .last .1 .1 .1 .1 .1 .1 .1 .1 .1 .1 .0)
     (closed (settled (c .before .before .before .before .before)) .close-unit .ensures
-        (restOf (Q (head (visited (recorded (closed (settled (c .before .before .before .before .before)))))))))
+    (restOf (Q (head (visited (recorded (closed (settled (c .before .before .before .before .before)))))))))
 
 returns : tie.Need-returns Inv-loop μ-loop
 returns c = rw (c .ended .ensures)
     (sofar-last (turn (visited (recorded (closed (settled (c .before .before .before .before .before))))))
-        (recorded (closed (settled (c .before .before .before .before .before))) .put-visit .last .1 .1 .0)
-        (recorded (closed (settled (c .before .before .before .before .before))) .put-visit .ensures)
+    (recorded (closed (settled (c .before .before .before .before .before))) .put-visit .last .1 .1 .0)
+    (recorded (closed (settled (c .before .before .before .before .before))) .put-visit .ensures)
     (closed (settled (c .before .before .before .before .before)) .close-unit .result)
     (closed (settled (c .before .before .before .before .before)) .close-unit .last .1 .1 .1 .1 .1 .1 .1 .1 .1 .0)
     (closed (settled (c .before .before .before .before .before)) .close-unit .last .1 .1 .1 .1 .1 .1 .1 .1 .1 .1 .0)
     (closed (settled (c .before .before .before .before .before)) .close-unit .ensures
-        (restOf (Q (head (visited (recorded (closed (settled (c .before .before .before .before .before)))))))))
+    (restOf (Q (head (visited (recorded (closed (settled (c .before .before .before .before .before)))))))))
     (settled (c .before .before .before .before .before) .if2 .c)
-        (controls-now (settled (c .before .before .before .before .before)))
-        (c .before .before .before .before .before .before .end-of .result)
-        (end-is (c .before .before .before .before .before .before))
+    (controls-now (settled (c .before .before .before .before .before)))
+    (c .before .before .before .before .before .before .end-of .result)
+    (end-is (c .before .before .before .before .before .before))
     (c .before .stopped .result)
     (c .before .stopped .ensures
-        (now (entered (head (visited (recorded (closed (settled (c .before .before .before .before .before)))))) .args .markers))
-        (now (entered (head (visited (recorded (closed (settled (c .before .before .before .before .before)))))) .args .text))
-        (now (entered (head (visited (recorded (closed (settled (c .before .before .before .before .before)))))) .args .outcomes))
-        (restOf (Q (head (visited (recorded (closed (settled (c .before .before .before .before .before)))))))) refl)
+    (now (entered (head (visited (recorded (closed (settled (c .before .before .before .before .before)))))) .args .markers))
+    (now (entered (head (visited (recorded (closed (settled (c .before .before .before .before .before)))))) .args .text))
+    (now (entered (head (visited (recorded (closed (settled (c .before .before .before .before .before)))))) .args .outcomes))
+    (restOf (Q (head (visited (recorded (closed (settled (c .before .before .before .before .before)))))))) refl)
     (last-by (c .before .before .before .before .before) true (c .before .before .before .before .if3 .taken)))
 
 loop-less : tie.Need-loop-less Inv-loop μ-loop
-loop-less c = omega (arith, goes-on (closed (settled (c .before))), (visited (recorded (closed (settled (c .before))))) .before
-    .before .before .before .before .if1 .taken)
+loop-less c = omega (
+  arith,
+  goes-on (closed (settled (c .before))),
+  (visited (recorded (closed (settled (c .before))))) .before
+      .before .before .before .before .if1 .taken,
+)
 
 loop-again : tie.Need-loop-again Inv-loop μ-loop
 loop-again c = sofar-more (turn (visited (recorded (closed (settled (c .before))))))
@@ -470,7 +492,7 @@ loop-again c = sofar-more (turn (visited (recorded (closed (settled (c .before))
     (closed (settled (c .before)) .close-unit .last .1 .1 .1 .1 .1 .1 .1 .1 .1 .1 .0)
     (closed (settled (c .before)) .close-unit .ensures (restOf (Q (head (visited (recorded (closed (settled (c .before)))))))))
     (settled (c .before) .if2 .c) (controls-now (settled (c .before))) (c .before .before .end-of .result)
-        (end-is (c .before .before))
+    (end-is (c .before .before))
     (last-by (c .before) false (c .if3 .left))
 
 ended-requires-2 : tie.Need-ended-requires-2 Inv-loop μ-loop
@@ -488,10 +510,10 @@ same-length-6 c = journal-as-lent (c .before .before .before)
 returns-2 : tie.Need-returns-2 Inv-loop μ-loop
 returns-2 c = rw (c .ended2 .ensures)
     (sofar-end (Q (c .before .before .before)) (T (c .before .before .before))
-        (now (entered (c .before .before .before) .args .ids)) (now (entered (c .before .before .before) .args .entries))
-        (now (entered (c .before .before .before) .args .journal)) (c .before .before .before .loop .ids)
-        (c .before .before .before .loop .entries) (c .before .before .before .loop .journal) (c .before .before .before .loop .c)
-        (c .before .before .before .loop .s) (c .before .before .before .loop .visits)
+    (now (entered (c .before .before .before) .args .ids)) (now (entered (c .before .before .before) .args .entries))
+    (now (entered (c .before .before .before) .args .journal)) (c .before .before .before .loop .ids)
+    (c .before .before .before .loop .entries) (c .before .before .before .loop .journal) (c .before .before .before .loop .c)
+    (c .before .before .before .loop .s) (c .before .before .before .loop .visits)
     (c .before .before .before .loop .listed) (c .before .before .before .loop .written) (c .before .before .before .loop .inv)
     (omega (arith, c .before .if1 .left, length-rules (now (entered (c .before .before .before) .args .rules)))))
 

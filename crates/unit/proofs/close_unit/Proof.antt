@@ -47,24 +47,24 @@ returns : tie.Need-returns
 returns c = λ rest. let a = c .before .before .before .before .before .before .before .before .before .before .before .before
     .before .before .before .before .before .before .before .before .before .before .before .before .args in
     let s = c .before .before .before .before .before .before .before .before .before .before .before .before .before .before
-        .starter-of in
+    .starter-of in
     let r = c .before .before .before .before .before .before .before .before .before .before .before .before .before .rule-at in
     let i = c .before .before .before .before .before .before .before .before .before .before .before .before .rule-id in
     let p = c .before .before .before .before .before .before .before .before .before .before .put-id in
     let w = c .before .before .before .before .before .before .put-entries in
     let x = c .before .before .execute-actions in
     closed-now (a .phase) (now (a .rules)) (now (a .actions)) (now (a .markers)) (now (a .text)) (now (a .outcomes))
-        (now (a .members)) rest (a .behind) (now (a .ids)) (now (a .entries)) (a .closes)
-        (c .before .before .before .before .before .before .before .before .before .before .before .before .before .before .before
-        .if1 .taken)
+    (now (a .members)) rest (a .behind) (now (a .ids)) (now (a .entries)) (a .closes)
+    (c .before .before .before .before .before .before .before .before .before .before .before .before .before .before .before
+    .if1 .taken)
     (r .result) (rw (s .ensures) at (r .ensures)) (i .result) (i .ensures) (p .result) (w .result) (c .after-flow .result)
-        (x .result .flow) (x .result .disruptive) _ _ (p .ensures .0) (p .ensures .1) (w .ensures) (x .ensures .flow)
-        (x .ensures .disruptive) (c .after-flow .ensures (a .phase) (now (a .outcomes)) rest)
+    (x .result .flow) (x .result .disruptive) _ _ (p .ensures .0) (p .ensures .1) (w .ensures) (x .ensures .flow)
+    (x .ensures .disruptive) (c .after-flow .ensures (a .phase) (now (a .outcomes)) rest)
 
 returns-2 : tie.Need-returns-2
 returns-2 c = λ rest. let a = c .before .before .before .before .before .before .before .before .before .args in
     open-still (a .phase) (now (a .rules)) (now (a .actions)) (now (a .markers)) (now (a .text)) (now (a .outcomes))
-        (now (a .members)) rest (a .behind) (now (a .ids)) (now (a .entries)) (a .closes) (c .if1 .left)
+    (now (a .members)) rest (a .behind) (now (a .ids)) (now (a .entries)) (a .closes) (c .if1 .left)
 
 pub close-unit-spec : {M : Type 1} → statement M
 close-unit-spec =

@@ -78,8 +78,11 @@ add-k : tie.Need-add-k Inv-loop μ-loop
 add-k c = record { fits = small (c .before .before .before .before .before .before .before .before .before .before .before) }
 
 loop-less : tie.Need-loop-less Inv-loop μ-loop
-loop-less c = omega (arith, c .before .before .before .before .before .before .before .before .before .before .before .loop-test
-    .taken)
+loop-less c = omega (
+  arith,
+  c .before .before .before .before .before .before .before .before .before .before .before .loop-test
+      .taken,
+)
 
 loop-again : tie.Need-loop-again Inv-loop μ-loop
 loop-again c = let a = c .before .before .before .before .before .before .before .before .before .before .before .before .before
@@ -91,17 +94,23 @@ loop-again c = let a = c .before .before .before .before .before .before .before
     let p = c .before .before .put-entry in
     let h = c .before .before .before .before .before .before .before .before .before .before .before .loop-test .taken in
     let is : give (getD (now (a .members)) (2 * k) 0) ≡ keep (eqb (o .result) 2) (e .result ∷ []) =
-    rw (o .ensures, e .ensures, c .before .before .before .before .before .before .own-or .ensures, c .before .before .before
-        .before .before .before .before .rule-id .ensures, c .before .before .before .before .before .before .before .before
-        .rule-at .ensures) in
+    rw (
+      o .ensures,
+      e .ensures,
+      c .before .before .before .before .before .before .own-or .ensures,
+      c .before .before .before
+          .before .before .before .before .rule-id .ensures,
+      c .before .before .before .before .before .before .before .before
+          .rule-at .ensures,
+    ) in
     sofar-more (dataFrom (now (a .members)) give 0) (now (a .entries)) (dataFrom (now (a .members)) give k) _
-        (dataFrom (now (a .members)) give (k + 1))
+    (dataFrom (now (a .members)) give (k + 1))
     (c .before .before .before .before .before .before .before .before .before .before .before .before .loop .entries) _
-        (c .before .before .before .before .before .before .before .before .before .before .before .before .loop .w) (p .result)
+    (c .before .before .before .before .before .before .before .before .before .before .before .before .loop .w) (p .result)
     (data-more (now (a .members)) give k (o .result) (e .result) h is)
-        (at-most-one (eqb (getD (now (a .members)) (2 * k + 1) 0) 1 && eqb (o .result) 2) (e .result))
-        (c .before .before .before .before .before .before .before .before .before .before .before .before .loop .inv)
-        (p .ensures)
+    (at-most-one (eqb (getD (now (a .members)) (2 * k + 1) 0) 1 && eqb (o .result) 2) (e .result))
+    (c .before .before .before .before .before .before .before .before .before .before .before .before .loop .inv)
+    (p .ensures)
 
 same-length : tie.Need-same-length Inv-loop μ-loop
 same-length c = c .before .loop .inv .kept
@@ -111,7 +120,7 @@ returns c = let a = c .before .before .before .before .before .before .args in
     let give = memberEntry (a .phase) (a .starter) (ruleList (now (a .rules))) (now (a .outcomes)) in
     let e = data-end (now (a .members)) give (c .before .loop .k) (c .loop-test .left) in
     sofar-end (dataFrom (now (a .members)) give 0) (now (a .entries)) (c .before .loop .entries) (c .before .loop .w)
-        (rw e at (c .before .loop .inv))
+    (rw e at (c .before .loop .inv))
 
 pub put-entries-spec : {M : Type 1} → statement M
 put-entries-spec =

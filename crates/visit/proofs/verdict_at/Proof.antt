@@ -21,8 +21,14 @@ verdict-requires : tie.Need-verdict-requires
 verdict-requires c κs = search needs
 
 returns : tie.Need-returns
-returns c = rw (c .verdict .ensures, c .before .before .is-removed .ensures, c .before .before .before .rule-id .ensures, c
-    .before .before .before .before .rule-at .ensures, c .before .outcome-at .ensures)
+returns c = rw (
+  c .verdict .ensures,
+  c .before .before .is-removed .ensures,
+  c .before .before .before .rule-id .ensures,
+  c
+      .before .before .before .before .rule-at .ensures,
+  c .before .outcome-at .ensures,
+)
 
 pub verdict-at-spec : {M : Type 1} → statement M
 verdict-at-spec =
