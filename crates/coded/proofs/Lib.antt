@@ -1,4 +1,5 @@
 pub mod StepLaws
+pub mod LentLaws
 pub mod RuleLaws
 pub mod UnitLaws
 pub mod Fits

@@ -1,6 +1,6 @@
 -- The codes of a rule, one after the other.
 use Prim.Native.Nat.{ℕ, zero, suc, _+_, _-_, _≤_, _<_, min}
-use mathlib.Core.Path.{_≡_, refl, sym, ap, subst, _∙_}
+use mathlib.Core.Path.{_≡_, refl, sym, ap, _∙_}
 use mathlib.Core.Bool.{Bool, true, false, not}
 use mathlib.Core.List.{List, [], _∷_}
 use native.Mathlib.Omega.{arith}
@@ -16,12 +16,10 @@ use Rattle.reading.specs.Text.{partOf}
 use Rattle.reading.specs.Walk.{noAction}
 use Rattle.reading.specs.Controls as reading
 use Rattle.control.specs.declared.Controls.{Controls}
-use Rattle.control.specs.declared.Settings.{Settings}
 use Rattle.control.specs.Held.{controlsOf, Became}
 use Rattle.control.proofs.Chained.{became-same, became-then}
 use Rattle.coded.specs.Coded.{Source, appliedCode, appliedCodes, ruleCoded, ruleChanges}
-use Rattle.coded.specs.Steps.{settingsAfter, addedBy, withSettings}
-use Rattle.coded.proofs.StepLaws.{Grown, grown-same, grown-then, coded-set, coded-added, added-grown, coded-grown}
+use Rattle.coded.proofs.StepLaws.{Grown, grown-same, grown-then, coded-grown}
 
 take-min : (n : ℕ) (l : List ℕ) → take (min n (length l)) l ≡ take n l
 take-min zero l = let z : min zero (length l) ≡ zero = omega arith in rw z
@@ -89,19 +87,17 @@ pub rule-grown : (s : Source) (codes : List ℕ) (r : Rule) (x : reading.Control
 unfolding ruleCoded
 rule-grown s codes r x = codes-grown s (r .first) (take (r .count) (drop (r .first) codes)) x
 
--- the codes up to i gone over: r has what they added to c, and the settings are s. What the others do then is what all do
-pub record Going (source : Source) (codes : List ℕ) (c r : Controls) (s : Settings) (i end : ℕ) (whole : reading.Controls) : Type
-    0 where
+-- the codes up to i gone over: r is what they made of c, and what the others make of r is what all make of c
+pub record Going (source : Source) (codes : List ℕ) (c r : Controls) (i end : ℕ) (whole : reading.Controls) : Type 0 where
   pub kept : Became c r (controlsOf r)
-  pub rest : appliedCodes source i (slice i end codes) (withSettings (controlsOf r) s) ≡ whole
+  pub rest : appliedCodes source i (slice i end codes) (controlsOf r) ≡ whole
 
 pub going-none : (source : Source) (codes : List ℕ) (c : Controls) (first end : ℕ)
-    → Going source codes c c (c .settings) first end (appliedCodes source first (slice first end codes) (controlsOf c))
-unfolding controlsOf
+    → Going source codes c c first end (appliedCodes source first (slice first end codes) (controlsOf c))
 going-none source codes c first end = record { kept = became-same c; rest = refl }
 
-module _ (source : Source) (codes : List ℕ) (c r : Controls) (s : Settings) (i end : ℕ) (whole : reading.Controls)
-    (h : i < end) (k : end ≤ length codes) (going : Going source codes c r s i end whole) where
+module _ (source : Source) (codes : List ℕ) (c r : Controls) (i end : ℕ) (whole : reading.Controls)
+    (h : i < end) (k : end ≤ length codes) (going : Going source codes c r i end whole) where
   abbrev here : Place
   here = record { phase = source .phase; position = i }
 
@@ -109,34 +105,21 @@ module _ (source : Source) (codes : List ℕ) (c r : Controls) (s : Settings) (i
   value = partOf (source .text) (getD (source .actions) i noAction .value)
 
   -- one code more, by what it makes of the controls
-  next : (y : reading.Controls) → appliedCode here value (getD codes i 0) (withSettings (controlsOf r) s) ≡ y
+  next : (y : reading.Controls) → appliedCode here value (getD codes i 0) (controlsOf r) ≡ y
       → appliedCodes source (i + 1) (slice (i + 1) end codes) y ≡ whole
   next y e =
-      let step : appliedCodes source i (getD codes i 0 ∷ slice (i + 1) end codes) (withSettings (controlsOf r) s) ≡ whole
-      = sym (ap (λ (l : List ℕ). appliedCodes source i l (withSettings (controlsOf r) s)) (codes-from codes i end h k)) ∙ going
-      .rest in
+      let step : appliedCodes source i (getD codes i 0 ∷ slice (i + 1) end codes) (controlsOf r) ≡ whole
+      = sym (ap (λ (l : List ℕ). appliedCodes source i l (controlsOf r)) (codes-from codes i end h k)) ∙ going .rest in
       ap (λ (j : ℕ). appliedCodes source j (slice (i + 1) end codes) y) (add-one i)
       ∙ (ap (appliedCodes source (suc i) (slice (i + 1) end codes)) (sym e) ∙ step)
 
-  -- r′ and s′ are what the turn leaves
-  pub going-set : (r′ : Controls) (s′ : Settings) → s′ ≡ settingsAfter (getD codes i 0) s → getD codes i 0 < 10 → r′ ≡ r
-      → Going source codes c r′ s′ (i + 1) end whole
-  going-set r′ s′ is l e =
-      subst (λ (x : Controls). Going source codes c x s′ (i + 1) end whole) (sym e)
-      (record {
-        kept = going .kept;
-        rest = next (withSettings (controlsOf r) s′)
-            (coded-set here value (getD codes i 0) (controlsOf r) s (omega arith) ∙ ap (withSettings (controlsOf r)) (sym is));
-      })
-
-  pub going-added : (added r′ : Controls) (s′ : Settings) → s′ ≡ settingsAfter (getD codes i 0) s → 10 ≤ getD codes i 0
-      → Became r added (addedBy here value (getD codes i 0) (controlsOf r)) → r′ ≡ added → Going source codes c r′ s′ (i + 1) end
-      whole
-  going-added added r′ s′ is l b e =
-      let g = added-grown here value (getD codes i 0) (controlsOf r) in
+  -- r′ is what the turn leaves
+  pub going-more : (r′ : Controls) → Became r r′ (appliedCode here value (getD codes i 0) (controlsOf r))
+      → Going source codes c r′ (i + 1) end whole
+  going-more r′ b =
+      let g = coded-grown here value (getD codes i 0) (controlsOf r) in
       let both = became-then (going .kept) b (g .ranges) (g .targets) in
-      subst (λ (x : Controls). Going source codes c x s′ (i + 1) end whole) (sym e)
-      (record {
+      record {
         kept = record {
           meaning = refl;
           starts = both .starts;
@@ -145,42 +128,21 @@ module _ (source : Source) (codes : List ℕ) (c r : Controls) (s : Settings) (i
           positions = both
               .positions;
         };
-        rest = next (withSettings (controlsOf added) s′)
-            (coded-added here value (getD codes i 0) (controlsOf r) s l
-            ∙ (ap (λ (x : reading.Controls). withSettings x (settingsAfter (getD codes i 0) s)) (sym (b .meaning))
-            ∙ ap (withSettings (controlsOf added)) (sym is)));
-      })
-
--- the struct with other settings
-abbrev pub inSettings : Controls → Settings → Controls
-inSettings r s =
-    record {
-      settings = s;
-      starts = r .starts;
-      ends = r .ends;
-      ranges = r .ranges;
-      phases = r .phases;
-      positions = r .positions;
-      targets = r .targets;
-    }
-
-anew : (r : Controls) (s : Settings) → controlsOf (inSettings r s) ≡ withSettings (controlsOf r) s
-unfolding controlsOf
-anew r s = refl
+        rest = next (controlsOf r′) (sym (b .meaning));
+      }
 
 -- behind the rule's last code
-pub going-end : (source : Source) (codes : List ℕ) (rule : Rule) (c r : Controls) (s : Settings) (i end : ℕ)
+pub going-end : (source : Source) (codes : List ℕ) (rule : Rule) (c r : Controls) (i end : ℕ)
     → end ≤ i → end ≡ rule .first + min (rule .count) (length codes - rule .first)
-    → Going source codes c r s i end (appliedCodes source (rule .first) (slice (rule .first) end codes) (controlsOf c))
-    → Became c (inSettings r s) (ruleCoded source codes rule (controlsOf c))
+    → Going source codes c r i end (appliedCodes source (rule .first) (slice (rule .first) end codes) (controlsOf c))
+    → Became c r (ruleCoded source codes rule (controlsOf c))
 unfolding ruleCoded
-going-end source codes rule c r s i end h e going =
+going-end source codes rule c r i end h e going =
     let z : end - i ≡ 0 = omega arith in
-    let last : withSettings (controlsOf r) s ≡ appliedCodes source (rule .first) (slice (rule .first) end codes) (controlsOf c)
+    let last : controlsOf r ≡ appliedCodes source (rule .first) (slice (rule .first) end codes) (controlsOf c)
     = rw z at (going .rest) in
     record {
-      meaning = anew r s ∙ (last ∙ ap (λ (l : List ℕ). appliedCodes source (rule .first) l (controlsOf c))
-          (codes-are codes rule end e));
+      meaning = last ∙ ap (λ (l : List ℕ). appliedCodes source (rule .first) l (controlsOf c)) (codes-are codes rule end e);
       starts = going .kept .starts;
       ends = going .kept .ends;
       phases = going .kept .phases;

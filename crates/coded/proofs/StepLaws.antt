@@ -1,6 +1,6 @@
--- One code: the settings and the additions do not depend on each other, and no code takes a range or a target away.
-use Prim.Native.Nat.{ℕ, _≤_}
-use mathlib.Core.Path.{_≡_, refl}
+-- One code: what it leaves, and that no code takes a range or a target away.
+use Prim.Native.Nat.{ℕ, _≤_, _<_}
+use mathlib.Core.Path.{_≡_, refl, sym, ap, _∙_}
 use mathlib.Core.Bool.{Bool, true, false, cond}
 use mathlib.Core.List.{List, [], _∷_, _++_}
 use native.Mathlib.Omega.{arith}
@@ -16,12 +16,14 @@ use Rattle.reading.specs.Lists.{keep}
 use Rattle.reading.specs.Text.{trim}
 use Rattle.reading.specs.Directive.{removalValue, rangesOf}
 use Rattle.reading.specs.Controls.{Controls, withMode, withAccess, withProcessor, withTarget, withAllRanges}
-use Rattle.reading.specs.Controls.{addTargetAnswer, addRangesAnswer, beyondLimits}
+use Rattle.reading.specs.Controls.{addTargetAnswer, addRangesAnswer}
 use Rattle.control.specs.declared.Settings.{Settings}
 use Rattle.control.specs.declared.Controls as held
-use Rattle.control.specs.Held.{controlsOf, Became}
+use Rattle.control.specs.Held.{controlsOf}
+use Rattle.coded.specs.declared.Held.{Held}
 use Rattle.coded.specs.Coded.{settingCoded, appliedCode}
-use Rattle.coded.specs.Steps.{modeSet, accessSet, processorSet, settingsAfter, addedBy, withSettings}
+use Rattle.coded.specs.Lent.{structOf, Whole, Turned}
+use Rattle.coded.specs.Steps.{modeSet, accessSet, processorSet, settingsAfter, withSettings, TargetAdded, RangesAdded}
 
 -- the first of two controls has no more ranges and no more targets than the second
 pub record Grown (a b : Controls) : Type 0 where
@@ -50,11 +52,6 @@ settings-left code s a b c d e f g h i =
       ne-eqb code 8 h,
       ne-eqb code 9 i,
     )
-
-settings-from-ten : (code : ℕ) (s : Settings) → 10 ≤ code → settingsAfter code s ≡ s
-settings-from-ten code s h =
-    settings-left code s (λ e. omega arith) (λ e. omega arith) (λ e. omega arith) (λ e. omega arith) (λ e. omega arith)
-    (λ e. omega arith) (λ e. omega arith) (λ e. omega arith) (λ e. omega arith)
 
 module _ (at : Place) (value : List ℕ) (code : ℕ) (x : Controls) (s : Settings) where
   -- a code that adds nothing
@@ -95,22 +92,6 @@ module _ (at : Place) (value : List ℕ) (code : ℕ) (x : Controls) (s : Settin
       go false false false false false false false false true = refl
       go false false false false false false false false false = refl
 
-  added-under : (b : Bool)
-      → cond b (withTarget (withSettings x s) at) (withAllRanges (withSettings x s) (rangesOf (removalValue (trim value))))
-      ≡ withSettings (cond b (withTarget x at) (withAllRanges x (rangesOf (removalValue (trim value))))) s
-  unfolding addTargetAnswer addRangesAnswer beyondLimits
-  added-under true = refl
-  added-under false = refl
-
-  added-beside : 10 ≤ code → appliedCode at value code (withSettings x s) ≡ withSettings (addedBy at value code x) s
-  unfolding appliedCode addedBy
-  added-beside h = rw (lt-leb code 9 (omega arith)) (added-under (eqb code 10))
-
-  -- a code that adds
-  pub coded-added : 10 ≤ code → appliedCode at value code (withSettings x s) ≡ withSettings (addedBy at value code x)
-      (settingsAfter code s)
-  coded-added h = rw (settings-from-ten code s h) (added-beside h)
-
 target-grown : (at : Place) (x : Controls) → Grown x (withTarget x at)
 target-grown at x = go (eqb (addTargetAnswer x) 0)
   where
@@ -127,14 +108,6 @@ target-grown at x = go (eqb (addTargetAnswer x) 0)
 ranges-grown : (rs : List RuleIdRange) (x : Controls) → Grown x (withAllRanges x rs)
 ranges-grown rs x =
     record { ranges = omega (arith, length-append (x .ranges) (keep (eqb (addRangesAnswer x rs) 0) rs)); targets = omega arith }
-
-pub added-grown : (at : Place) (value : List ℕ) (code : ℕ) (x : Controls) → Grown x (addedBy at value code x)
-unfolding addedBy
-added-grown at value code x = go (eqb code 10)
-  where
-    go : (b : Bool) → Grown x (cond b (withTarget x at) (withAllRanges x (rangesOf (removalValue (trim value)))))
-    go true = target-grown at x
-    go false = ranges-grown (rangesOf (removalValue (trim value))) x
 
 -- a code below 10 leaves both lists
 setting-grown : (code : ℕ) (x : Controls) → Grown x (settingCoded code x)
@@ -164,23 +137,72 @@ setting-grown code x =
     go false false false false false false false false false = record { ranges = omega arith; targets = omega arith }
 
 pub coded-grown : (at : Place) (value : List ℕ) (code : ℕ) (x : Controls) → Grown x (appliedCode at value code x)
-unfolding appliedCode addedBy
-coded-grown at value code x = go (leb code 9)
+unfolding appliedCode
+coded-grown at value code x = go (leb code 9) (eqb code 10)
   where
-    go : (b : Bool) → Grown x (cond b (settingCoded code x)
-        (cond (eqb code 10) (withTarget x at) (withAllRanges x (rangesOf (removalValue (trim value))))))
-    go true = setting-grown code x
-    go false = added-grown at value code x
+    go : (b d : Bool) → Grown x (cond b (settingCoded code x)
+        (cond d (withTarget x at) (withAllRanges x (rangesOf (removalValue (trim value))))))
+    go true d = setting-grown code x
+    go false true = target-grown at x
+    go false false = ranges-grown (rangesOf (removalValue (trim value))) x
 
--- what the additions of crates/control give, by the code
-module _ (c r : held.Controls) (code : ℕ) where
-  pub became-target : code ≡ 10 → (at : Place) (value : List ℕ) → Became c r (withTarget (controlsOf c) at)
-      → Became c r (addedBy at value code (controlsOf c))
-  unfolding addedBy
-  became-target e at value b = rw (eq-eqb code 10 e) b
+-- the controls with the settings that they have
+settings-same : (c : held.Controls) → controlsOf c ≡ withSettings (controlsOf c) (c .settings)
+unfolding controlsOf
+settings-same c = refl
 
-  pub became-added : (code ≡ 10 → ⊥) → (at : Place) (value : List ℕ)
-      → Became c r (withAllRanges (controlsOf c) (rangesOf (removalValue (trim value)))) → Became c r
-      (addedBy at value code (controlsOf c))
-  unfolding addedBy
-  became-added e at value b = rw (ne-eqb code 10 e) b
+-- what a code leaves, by what it adds
+module _ (h : Held) (starts ends phases positions : List ℕ) (at : Place) (value : List ℕ) (code : ℕ)
+    (whole : Whole starts ends phases positions) where
+  abbrev c : held.Controls
+  c = structOf h starts ends phases positions
+
+  pub turned-set : (s : Settings) → code ≤ 9 → s ≡ settingsAfter code (h .settings)
+      → Turned h starts ends phases positions (record { settings = s; ranges = h .ranges; targets = h .targets }) starts ends
+      phases positions (appliedCode at value code (controlsOf c))
+  unfolding controlsOf
+  turned-set s l e =
+      record {
+        whole = whole;
+        became = record { meaning = means; starts = refl; ends = refl; phases = refl; positions = refl };
+      }
+    where
+      means : controlsOf (structOf (record { settings = s; ranges = h .ranges; targets = h .targets }) starts ends phases
+          positions)
+          ≡ appliedCode at value code (controlsOf c)
+      means =
+          ap (withSettings (controlsOf c)) e
+          ∙ (sym (coded-set at value code (controlsOf c) (h .settings) l) ∙ ap (appliedCode at value code)
+          (sym (settings-same c)))
+
+  pub turned-target : (r : Held) (phases′ positions′ : List ℕ) → code ≡ 10 → TargetAdded h at phases positions r phases′
+      positions′
+      → Turned h starts ends phases positions r starts ends phases′ positions′ (appliedCode at value code (controlsOf c))
+  unfolding appliedCode
+  turned-target r phases′ positions′ e a =
+      rw (lt-leb code 9 (omega arith), eq-eqb code 10 e)
+      (record {
+        whole = record {
+          starts-256 = whole .starts-256;
+          ends-256 = whole .ends-256;
+          phases-64 = a .phases-64;
+          positions-64 = a .positions-64;
+        };
+        became = a .became starts ends;
+      })
+
+  pub turned-ranges : (v : List ℕ) (r : Held) (starts′ ends′ : List ℕ) → 9 < code → (code ≡ 10 → ⊥) → v ≡ value
+      → RangesAdded h v starts ends r starts′ ends′
+      → Turned h starts ends phases positions r starts′ ends′ phases positions (appliedCode at value code (controlsOf c))
+  unfolding appliedCode
+  turned-ranges v r starts′ ends′ l n e a =
+      rw (lt-leb code 9 l, ne-eqb code 10 n, ← e)
+      (record {
+        whole = record {
+          starts-256 = a .starts-256;
+          ends-256 = a .ends-256;
+          phases-64 = whole .phases-64;
+          positions-64 = whole .positions-64;
+        };
+        became = a .became phases positions;
+      })

@@ -1,6 +1,6 @@
 -- The members of a unit, one after the other.
 use Prim.Native.Nat.{ℕ, _+_, _/_, _≤_, _<_, _*_}
-use mathlib.Core.Path.{_≡_, refl, sym, ap, subst, _∙_}
+use mathlib.Core.Path.{_≡_, refl, sym, ap, _∙_}
 use mathlib.Core.Bool.{Bool, true, false, _&&_, _||_}
 use mathlib.Core.List.{List, [], _∷_, _++_}
 use native.Mathlib.Omega.{arith}
@@ -29,16 +29,6 @@ module _ (words : List ℕ) (i : ℕ) (h : i < length words / 2) where
   members-from : membersFrom words i
       ≡ keep (eqb (getD words (2 * i + 1) 0) 1) (getD words (2 * i) 0 ∷ []) ++ membersFrom words (i + 1)
   members-from = rw (add-one i) (ap matchedIn (drop-entries words i h))
-
-  pub member-here : getD words (2 * i + 1) 0 ≡ 1 → membersFrom words i ≡ getD words (2 * i) 0 ∷ membersFrom words (i + 1)
-  member-here e =
-      members-from
-      ∙ ap (λ (b : Bool). keep b (getD words (2 * i) 0 ∷ []) ++ membersFrom words (i + 1)) (eq-eqb (getD words (2 * i + 1) 0) 1 e)
-
-  pub no-member : (getD words (2 * i + 1) 0 ≡ 1 → ⊥) → membersFrom words i ≡ membersFrom words (i + 1)
-  no-member e =
-      members-from
-      ∙ ap (λ (b : Bool). keep b (getD words (2 * i) 0 ∷ []) ++ membersFrom words (i + 1)) (ne-eqb (getD words (2 * i + 1) 0) 1 e)
 
 pub members-end : (words : List ℕ) (i : ℕ) → length words / 2 ≤ i → membersFrom words i ≡ []
 members-end words i h =
@@ -88,6 +78,15 @@ pub across-none : (source : Source) (codes : List ℕ) (rules : List Rule) (word
     rules words c c 0
 across-none source codes rules words c = record { kept = became-same c; rest = refl }
 
+-- a journal entry: its rule where that is a member
+module _ (source : Source) (codes : List ℕ) (rules : List Rule) (index verdict : ℕ) (x : reading.Controls) where
+  pub entry-member : (rule : Rule) → verdict ≡ 1 → rule ≡ getD rules index noRule
+      → ruleCoded source codes rule x ≡ unitCoded source codes rules (keep (eqb verdict 1) (index ∷ [])) x
+  entry-member rule e is = rw (eq-eqb verdict 1 e, is)
+
+  pub entry-none : (verdict ≡ 1 → ⊥) → x ≡ unitCoded source codes rules (keep (eqb verdict 1) (index ∷ [])) x
+  entry-none e = rw (ne-eqb verdict 1 e)
+
 module _ (source : Source) (codes : List ℕ) (rules : List Rule) (words : List ℕ) (c r : Controls) (i : ℕ)
     (across : Across source codes rules words c r i) where
   -- the members from entry i on are those of a list
@@ -97,22 +96,15 @@ module _ (source : Source) (codes : List ℕ) (rules : List Rule) (words : List 
   rest-of ms e = ap (λ (l : List ℕ). unitCoded source codes rules l (controlsOf r)) (sym e) ∙ across .rest
 
   -- r′ is what the turn leaves
-  pub across-past : (r′ : Controls) → i < length words / 2 → (getD words (2 * i + 1) 0 ≡ 1 → ⊥) → r′ ≡ r
+  pub across-more : (r′ : Controls) → i < length words / 2
+      → Became r r′ (unitCoded source codes rules (keep (eqb (getD words (2 * i + 1) 0) 1) (getD words (2 * i) 0 ∷ []))
+      (controlsOf r))
       → Across source codes rules words c r′ (i + 1)
-  across-past r′ h n e =
-      subst (λ (x : Controls). Across source codes rules words c x (i + 1)) (sym e)
-      (record { kept = across .kept; rest = rest-of (membersFrom words (i + 1)) (no-member words i h n) })
-
-  pub across-member : (rule : Rule) (made r′ : Controls) → i < length words / 2 → getD words (2 * i + 1) 0 ≡ 1
-      → rule ≡ getD rules (getD words (2 * i) 0) noRule → Became r made (ruleCoded source codes rule (controlsOf r)) → r′ ≡ made
-      → Across source codes rules words c r′ (i + 1)
-  across-member rule made r′ h n is b e =
-      let g = rule-grown source codes rule (controlsOf r) in
+  across-more r′ h b =
+      let one = keep (eqb (getD words (2 * i + 1) 0) 1) (getD words (2 * i) 0 ∷ []) in
+      let g = unit-grown source codes rules one (controlsOf r) in
       let both = became-then (across .kept) b (g .ranges) (g .targets) in
-      let by : controlsOf made ≡ ruleCoded source codes (getD rules (getD words (2 * i) 0) noRule) (controlsOf r)
-      = b .meaning ∙ ap (λ (a : Rule). ruleCoded source codes a (controlsOf r)) is in
-      subst (λ (x : Controls). Across source codes rules words c x (i + 1)) (sym e)
-      (record {
+      record {
         kept = record {
           meaning = refl;
           starts = both .starts;
@@ -121,9 +113,16 @@ module _ (source : Source) (codes : List ℕ) (rules : List Rule) (words : List 
           positions = both
               .positions;
         };
-        rest = ap (unitCoded source codes rules (membersFrom words (i + 1))) by
-            ∙ rest-of (getD words (2 * i) 0 ∷ membersFrom words (i + 1)) (member-here words i h n);
-      })
+        rest = ap (unitCoded source codes rules (membersFrom words (i + 1))) (b .meaning)
+            ∙ (go (eqb (getD words (2 * i + 1) 0) 1) ∙ rest-of (one ++ membersFrom words (i + 1)) (members-from words i h));
+      }
+    where
+      go : (v : Bool)
+          → unitCoded source codes rules (membersFrom words (i + 1))
+          (unitCoded source codes rules (keep v (getD words (2 * i) 0 ∷ [])) (controlsOf r))
+          ≡ unitCoded source codes rules (keep v (getD words (2 * i) 0 ∷ []) ++ membersFrom words (i + 1)) (controlsOf r)
+      go true = refl
+      go false = refl
 
   pub across-end : length words / 2 ≤ i
       → Became c r (unitCoded source codes rules (matchedIn (journalList words)) (controlsOf c))

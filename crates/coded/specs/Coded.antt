@@ -34,7 +34,8 @@ settingCoded code c =
 -- adds the value's ranges, all or none
 unfoldable pub appliedCode : Place → List ℕ → ℕ → Controls → Controls
 appliedCode at value code c =
-    cond (leb code 9) (settingCoded code c) (cond (eqb code 10) (withTarget c at) (withAllRanges c (rangesOf (removalValue (trim value)))))
+    cond (leb code 9) (settingCoded code c)
+    (cond (eqb code 10) (withTarget c at) (withAllRanges c (rangesOf (removalValue (trim value)))))
 
 -- what the coded actions are lent with: the phase, the text and the actions
 pub record Source : Type 0 where

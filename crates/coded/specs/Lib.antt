@@ -1,2 +1,3 @@
 pub mod Coded
+pub mod Lent
 pub mod Steps

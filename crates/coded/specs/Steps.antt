@@ -1,8 +1,10 @@
--- How the codes of a rule are gone over: the settings are kept beside the controls that grow. Only private functions and proofs cite this.
+-- What single steps leave. Only private functions and proofs cite this.
 use Prim.Native.Nat.{ℕ}
+use mathlib.Core.Path.{_≡_}
 use mathlib.Core.Bool.{cond}
 use mathlib.Core.List.{List}
 use lib.Dec.{eqb}
+use lib.ListN.{length}
 use Rattle.reading.specs.declared.Place.{Place}
 use Rattle.reading.specs.declared.RuleEngineMode.{RuleEngineMode}
 use Rattle.reading.specs.declared.BodyAccess.{BodyAccess}
@@ -14,6 +16,9 @@ use Rattle.reading.specs.Text.{trim}
 use Rattle.reading.specs.Directive.{removalValue, rangesOf}
 use Rattle.reading.specs.Controls.{Controls, withTarget, withAllRanges}
 use Rattle.control.specs.declared.Settings.{Settings}
+use Rattle.control.specs.Held.{controlsOf, Became}
+use Rattle.coded.specs.declared.Held.{Held}
+use Rattle.coded.specs.Lent.{structOf}
 
 abbrev pub modeSet : Settings → RuleEngineMode → Settings
 modeSet s m = record { mode = ModeSetting.Set m; access = s .access; processor = s .processor }
@@ -37,10 +42,23 @@ settingsAfter code s =
     (cond (eqb code 8) (processorSet s BodyProcessor.Json)
     (cond (eqb code 9) (processorSet s BodyProcessor.Xml) s))))))))
 
--- what a code of 10 or more adds
-unfoldable pub addedBy : Place → List ℕ → ℕ → Controls → Controls
-addedBy at value code c = cond (eqb code 10) (withTarget c at) (withAllRanges c (rangesOf (removalValue (trim value))))
-
 -- the controls with other settings
 abbrev pub withSettings : Controls → Settings → Controls
-withSettings c s = record { mode = s .mode; ranges = c .ranges; targets = c .targets; access = s .access; processor = s .processor }
+withSettings c s = record
+    { mode = s .mode; ranges = c .ranges; targets = c .targets; access = s .access; processor = s .processor }
+
+-- a place added as a target: the two lent lists keep their length, whatever the other two are
+pub record TargetAdded (h : Held) (at : Place) (phases positions : List ℕ) (r : Held) (phases′ positions′ : List ℕ) : Type 0 where
+  pub phases-64 : length phases′ ≡ 64
+  pub positions-64 : length positions′ ≡ 64
+  pub became : (starts ends : List ℕ)
+      → Became (structOf h starts ends phases positions) (structOf r starts ends phases′ positions′)
+      (withTarget (controlsOf (structOf h starts ends phases positions)) at)
+
+-- the ranges of a value added, all or none
+pub record RangesAdded (h : Held) (value starts ends : List ℕ) (r : Held) (starts′ ends′ : List ℕ) : Type 0 where
+  pub starts-256 : length starts′ ≡ 256
+  pub ends-256 : length ends′ ≡ 256
+  pub became : (phases positions : List ℕ)
+      → Became (structOf h starts ends phases positions) (structOf r starts′ ends′ phases positions)
+      (withAllRanges (controlsOf (structOf h starts ends phases positions)) (rangesOf (removalValue (trim value))))

@@ -1,4 +1,5 @@
 // The phase call (`Transaction::run_phase` in engine/transaction.rs), by value: transaction in, transaction and answer out.
+use coded::Held;
 use control::Controls;
 use control::Settings;
 use intervention::Ending;
@@ -128,8 +129,8 @@ fn ended(
     }
 }
 
-// The walk from the first rule on, where nothing stands against it. The controls are passed by value only where a closed unit
-// changes them.
+// The walk from the first rule on, where nothing stands against it. The controls' arrays are locals, lent where they are read
+// and where a closed unit changes them; the struct is made up again at the end.
 fn walk_rules(
     held: Controls,
     listed_before: usize,
@@ -155,7 +156,16 @@ fn walk_rules(
 {
     let ruleset_mode = mode_numbered(mode);
     let n = rules.len() / 5;
-    let mut c = held;
+    let mut starts = held.starts;
+    let mut ends = held.ends;
+    let mut phases = held.phases;
+    let mut positions = held.positions;
+    let settings_before = held.settings;
+    let mut h = Held {
+        settings: settings_before,
+        ranges: held.ranges,
+        targets: held.targets,
+    };
     let mut s = State {
         next: 0,
         chained: false,
@@ -166,8 +176,8 @@ fn walk_rules(
     let mut written = written_before;
     while s.next < n {
         let next = s.next;
-        let count = c.ranges;
-        let found = visit::verdict_at(rules, outcomes, next, &c.starts, &c.ends, count);
+        let count = h.ranges;
+        let found = visit::verdict_at(rules, outcomes, next, &starts, &ends, count);
         let v = visit::visit(rules, s, visits, found);
         let place = 2 * visits;
         put_visit(next, found, &mut journal[place..]);
@@ -193,15 +203,36 @@ fn walk_rules(
         listed += u.ids;
         written += u.entries;
         if coded::changes(closes, &journal[from..to], rules, codes) {
-            c = coded::unit_controls(c, &journal[from..to], rules, actions, text, codes, phase);
+            h = coded::unit_controls(
+                h,
+                &journal[from..to],
+                rules,
+                actions,
+                text,
+                codes,
+                phase,
+                &mut starts,
+                &mut ends,
+                &mut phases,
+                &mut positions,
+            );
         }
-        let settings = c.settings;
+        let settings = h.settings;
         let now = mode_under(ruleset_mode, settings);
         let disruptive = u.disruptive;
         let e = intervention::end_of(found, disruptive, now);
         if is_last(e, now) {
             let stop = intervention::stopped(e, &journal[from..to], rules, actions, phase, status);
-            return ended(e, next, visits, listed, written, stop, c);
+            let controls = Controls {
+                settings,
+                starts,
+                ends,
+                ranges: h.ranges,
+                phases,
+                positions,
+                targets: h.targets,
+            };
+            return ended(e, next, visits, listed, written, stop, controls);
         }
         s = State {
             next: u.next,
@@ -209,6 +240,16 @@ fn walk_rules(
             first: after.first,
         };
     }
+    let settings_after = h.settings;
+    let controls = Controls {
+        settings: settings_after,
+        starts,
+        ends,
+        ranges: h.ranges,
+        phases,
+        positions,
+        targets: h.targets,
+    };
     ended(
         Ending::GoesOn,
         0,
@@ -216,7 +257,7 @@ fn walk_rules(
         listed,
         written,
         OptionIntervention::None,
-        c,
+        controls,
     )
 }
 

@@ -1,71 +1,110 @@
 -- `coded::rule_controls` meets its contract. The invariant: what the codes from `i` on then do is what all of the rule do.
-use borrow.Author.Needs.{needs}
 use Prim.Native.Nat.{_-_, _≤_}
-use mathlib.Core.Logic.{⊎-elim}
+use mathlib.Core.Path.{sym, _∙_}
 use native.Mathlib.Omega.{arith}
 use lib.ListN.{length}
 use Rattle.reading.specs.Records.{actionList}
 use Rattle.control.specs.Held.{controlsOf}
 use Rattle.coded.specs.Coded.{appliedCodes}
-use Rattle.coded.proofs.RuleLaws.{slice, Going, going-none, going-set, going-added, going-end}
+use Rattle.coded.specs.Lent.{structOf, Whole}
+use Rattle.coded.proofs.RuleLaws.{slice, Going, going-none, going-more, going-end}
+use borrow.Author.Needs.{needs}
 use Rattle.coded.proofs.rule_controls.Statement.{statement}
 use Rattle.coded.proofs.rule_controls.Tie as tie
 
 abbrev Inv-loop : tie.InvT-loop
-Inv-loop actions text codes phase first end r₀ s₀ i₀ r s i =
-    (first ≤ i) × (i ≤ end)
-    × Going (record { phase = phase; text = text; actions = actionList actions }) codes r₀ r s i end
+Inv-loop actions text codes phase starts₀ ends₀ phases₀ positions₀ first end r₀ i₀ starts ends phases positions r i =
+    (first ≤ i)
+    × Whole starts ends phases positions
+    × Going (record { phase = phase; text = text; actions = actionList actions }) codes
+    (structOf r₀ starts₀ ends₀ phases₀ positions₀) (structOf r starts ends phases positions) i end
     (appliedCodes (record { phase = phase; text = text; actions = actionList actions }) first (slice first end codes)
-    (controlsOf r₀))
+    (controlsOf (structOf r₀ starts₀ ends₀ phases₀ positions₀)))
 
 abbrev μ-loop : tie.MeasureT-loop
-μ-loop actions text codes phase first end r₀ s₀ i₀ r s i = end - i
+μ-loop actions text codes phase starts₀ ends₀ phases₀ positions₀ first end r₀ i₀ starts ends phases positions r i = end - i
+
+inside : (c : tie.In-loop Inv-loop μ-loop) → c .before .before .codes-end .result ≤ length
+    (c .before .before .before .before .before .before .before .before .before .before .args .codes .now)
+inside c =
+    omega (arith, c .before .before .codes-end .ensures, c .loop-test .taken, c .before .loop .inv .0)
 
 codes-end-requires : tie.Need-codes-end-requires Inv-loop μ-loop
 codes-end-requires c κs = search needs
 
 loop-holds : tie.Need-loop-holds Inv-loop μ-loop
-loop-holds c = (omega arith, omega arith, going-none _ _ _ _ _)
+loop-holds c =
+    (omega arith, c .before .before .before .before .before .before .before .before .pre, going-none _ _ _ _ _)
 
 mul-code : tie.Need-mul-code Inv-loop μ-loop
-mul-code c = omega arith
+mul-code c = omega (arith, inside (c), c .loop-test .taken)
 
 shared-slice-read-code : tie.Need-shared-slice-read-code Inv-loop μ-loop
-shared-slice-read-code c = omega arith
+shared-slice-read-code c = omega (arith, inside (c .before), c .before .loop-test .taken)
 
-set-coded-requires : tie.Need-set-coded-requires Inv-loop μ-loop
-set-coded-requires c κs = search needs
-
-add-at-requires : tie.Need-add-at-requires Inv-loop μ-loop
-add-at-requires c κs = search needs
+apply-requires : tie.Need-apply-requires Inv-loop μ-loop
+apply-requires c κs = c .before .before .before .before .before .before .loop .inv .1
 
 add-i : tie.Need-add-i Inv-loop μ-loop
-add-i c = omega arith
+add-i c =
+    omega (
+      arith,
+      inside (c .before .before .before .before .before .before .before .before .before .before .before .before
+          .before .before),
+      c .before .before .before .before .before .before .before .before .before .before .before .before
+          .before .before .loop-test .taken,
+    )
 
 loop-less : tie.Need-loop-less Inv-loop μ-loop
-loop-less c = omega arith
+loop-less c =
+    omega (
+      arith,
+      c .before .before .before .before .before .before .before .before .before .before .before .before .before
+          .before .loop-test .taken,
+    )
 
 loop-again : tie.Need-loop-again Inv-loop μ-loop
 loop-again c =
-    let l = c .before .before .before .before in
-    let end = l .before .before .codes-end in
-    let inside : end .result ≤ length (l .before .before .before .before .before .before .args .codes .now) = omega
-    (arith, end .ensures) in (
-      omega arith,
-      omega arith,
-      ⊎-elim
-          (λ w. going-added _ _ _ _ _ (l .loop .i) _ _ (omega arith) inside (l .loop .inv .2) _ (c .if1 .r) _
-          (c .before .set-coded .ensures) (w .0 .taken) (w .1 .ensures) (w .2))
-          (λ w. going-set _ _ _ _ _ (l .loop .i) _ _ (omega arith) inside (l .loop .inv .2) (c .if1 .r) _
-          (c .before .set-coded .ensures) (w .0 .left) (w .1))
-          (c .if1 .came),
+    let l = c .before .before .before .before .before .before .before .before .before .before .before .before .before .before
+    .before .loop in
+    let e = c .before .before .before .before .before .before .before .before .apply .ensures in (
+      omega (arith, l .inv .0),
+      e .whole,
+      going-more _ _ _ _ (l .i) _ _
+          (c .before .before .before .before .before .before .before .before .before .before .before .before .before .before
+          .loop-test .taken) (inside
+          (c .before .before .before .before .before .before .before .before .before .before .before .before .before .before))
+          (l .inv .2) _ (e .became),
     )
+
+same-length : tie.Need-same-length Inv-loop μ-loop
+same-length c =
+    c .before .loop .inv .1 .starts-256 ∙ sym
+    (c .before .before .before .before .before .before .before .before .before .before .pre .starts-256)
+
+same-length-2 : tie.Need-same-length-2 Inv-loop μ-loop
+same-length-2 c =
+    c .before .loop .inv .1 .ends-256 ∙ sym
+    (c .before .before .before .before .before .before .before .before .before .before .pre .ends-256)
+
+same-length-3 : tie.Need-same-length-3 Inv-loop μ-loop
+same-length-3 c =
+    c .before .loop .inv .1 .phases-64 ∙ sym
+    (c .before .before .before .before .before .before .before .before .before .before .pre .phases-64)
+
+same-length-4 : tie.Need-same-length-4 Inv-loop μ-loop
+same-length-4 c =
+    c .before .loop .inv .1 .positions-64 ∙ sym
+    (c .before .before .before .before .before .before .before .before .before .before .pre .positions-64)
 
 returns : tie.Need-returns Inv-loop μ-loop
 returns c =
-    let l = c .before in
-    going-end _ _ (l .before .before .before .before .before .before .args .rule) _ _ _ (l .loop .i) _ (omega arith)
-    (l .before .before .codes-end .ensures) (l .loop .inv .2)
+    let l = c .before .loop in
+    record {
+      whole = l .inv .1;
+      became = going-end _ _ (c .before .before .before .before .before .before .before .before .before .before .args .rule) _ _
+          (l .i) _ (c .loop-test .left) (c .before .before .codes-end .ensures) (l .inv .2);
+    }
 
 pub rule-controls-spec : {M : Type 1} → statement M
 rule-controls-spec =
@@ -77,9 +116,12 @@ rule-controls-spec =
     loop-holds
     mul-code
     shared-slice-read-code
-    set-coded-requires
-    add-at-requires
+    apply-requires
     add-i
     loop-less
     loop-again
+    same-length
+    same-length-2
+    same-length-3
+    same-length-4
     returns)

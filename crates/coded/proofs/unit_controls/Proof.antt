@@ -1,87 +1,62 @@
--- `coded::unit_controls` meets its contract. The invariant: what the members from entry `i` on then do is what all of the unit do.
+-- `coded::unit_controls` meets its contract.
+use Rattle.coded.proofs.LentLaws.{left-same}
 use borrow.Author.Needs.{needs}
-use Prim.Native.Nat.{_-_, _≤_}
-use mathlib.Core.Logic.{⊎-elim}
-use native.Mathlib.Omega.{arith}
-use Rattle.reading.specs.Records.{ruleList, actionList}
-use Rattle.coded.proofs.UnitLaws.{Across, across-none, across-past, across-member, across-end}
 use Rattle.coded.proofs.unit_controls.Statement.{statement}
 use Rattle.coded.proofs.unit_controls.Tie as tie
 
-abbrev Inv-loop : tie.InvT-loop
-Inv-loop entries rules actions text codes phase n r₀ i₀ r i =
-    (i ≤ n) × Across (record { phase = phase; text = text; actions = actionList actions }) codes (ruleList rules) entries r₀ r i
+returns : tie.Need-returns
+returns c = (λ w. absurd (c .if1 .taken (w .starts-256)), λ n. left-same _ _ _ _ _)
 
-abbrev μ-loop : tie.MeasureT-loop
-μ-loop entries rules actions text codes phase n r₀ i₀ r i = n - i
+returns-2 : tie.Need-returns-2
+returns-2 c = (λ w. absurd (c .if2 .taken (w .ends-256)), λ n. left-same _ _ _ _ _)
 
-loop-holds : tie.Need-loop-holds Inv-loop μ-loop
-loop-holds c = (omega arith, across-none _ _ _ _ _)
+returns-3 : tie.Need-returns-3
+returns-3 c = (λ w. absurd (c .if3 .taken (w .phases-64)), λ n. left-same _ _ _ _ _)
 
-mul-if1 : tie.Need-mul-if1 Inv-loop μ-loop
-mul-if1 c = omega arith
+returns-4 : tie.Need-returns-4
+returns-4 c = (λ w. absurd (c .if4 .taken (w .positions-64)), λ n. left-same _ _ _ _ _)
 
-add-if1 : tie.Need-add-if1 Inv-loop μ-loop
-add-if1 c = omega arith
+members-controls-requires : tie.Need-members-controls-requires
+members-controls-requires c κs = search needs
 
-mul-if1-2 : tie.Need-mul-if1-2 Inv-loop μ-loop
-mul-if1-2 c = omega arith
+same-length : tie.Need-same-length
+same-length c = search needs
 
-shared-slice-read-if1 : tie.Need-shared-slice-read-if1 Inv-loop μ-loop
-shared-slice-read-if1 c = omega arith
+same-length-2 : tie.Need-same-length-2
+same-length-2 c = search needs
 
-mul-rule-at : tie.Need-mul-rule-at Inv-loop μ-loop
-mul-rule-at c = omega arith
+same-length-3 : tie.Need-same-length-3
+same-length-3 c = search needs
 
-mul-rule-at-2 : tie.Need-mul-rule-at-2 Inv-loop μ-loop
-mul-rule-at-2 c = omega arith
+same-length-4 : tie.Need-same-length-4
+same-length-4 c = search needs
 
-shared-slice-read-rule-at : tie.Need-shared-slice-read-rule-at Inv-loop μ-loop
-shared-slice-read-rule-at c = omega arith
-
-rule-at-requires : tie.Need-rule-at-requires Inv-loop μ-loop
-rule-at-requires c κs = search needs
-
-rule-controls-requires : tie.Need-rule-controls-requires Inv-loop μ-loop
-rule-controls-requires c κs = search needs
-
-add-i : tie.Need-add-i Inv-loop μ-loop
-add-i c = omega arith
-
-loop-less : tie.Need-loop-less Inv-loop μ-loop
-loop-less c = omega arith
-
-loop-again : tie.Need-loop-again Inv-loop μ-loop
-loop-again c =
-    let l = c .before .before .before in (
-      omega arith,
-      ⊎-elim
-          (λ w. across-member _ _ _ _ _ _ (l .loop .i) (l .loop .inv .1) _ _ (c .if1 .r) (omega arith) (w .0 .taken)
-          (w .2 .ensures) (w .3 .ensures) (w .4))
-          (λ w. across-past _ _ _ _ _ _ (l .loop .i) (l .loop .inv .1) (c .if1 .r) (omega arith) (w .0 .left) (w .1))
-          (c .if1 .came),
-    )
-
-returns : tie.Need-returns Inv-loop μ-loop
-returns c = across-end _ _ _ _ _ _ (c .before .loop .i) (c .before .loop .inv .1) (omega arith)
+returns-5 : tie.Need-returns-5
+returns-5 c = (
+  λ w. c .before .before .before .before .before .before .before .before .members-controls .ensures,
+  λ n. absurd (n (record {
+    starts-256 = c .before .before .before .before .before .before .before .before .before .before .before .before .before .before
+        .before .before .if1 .left;
+    ends-256 = c .before .before .before .before .before .before .before .before .before .before .before .before .before .before
+        .before .if2 .left;
+    phases-64 = c .before .before .before .before .before .before .before .before .before .before .before .before .before .before
+        .if3 .left;
+    positions-64 = c .before .before .before .before .before .before .before .before .before .before .before .before .before .if4
+        .left;
+  })),
+)
 
 pub unit-controls-spec : {M : Type 1} → statement M
 unit-controls-spec =
     tie.close
     (tie.spec
-    Inv-loop
-    μ-loop
-    loop-holds
-    mul-if1
-    add-if1
-    mul-if1-2
-    shared-slice-read-if1
-    mul-rule-at
-    mul-rule-at-2
-    shared-slice-read-rule-at
-    rule-at-requires
-    rule-controls-requires
-    add-i
-    loop-less
-    loop-again
-    returns)
+    returns
+    returns-2
+    returns-3
+    returns-4
+    members-controls-requires
+    same-length
+    same-length-2
+    same-length-3
+    same-length-4
+    returns-5)

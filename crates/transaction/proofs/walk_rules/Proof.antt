@@ -7,12 +7,15 @@ use native.Mathlib.Omega.{arith}
 use native.Mathlib.Nat.{le-refl}
 use denote.Ref.{now}
 use mathlib.Core.List.{_++_}
-use lib.ListN.{length, take, drop}
+use lib.ListN.{length, take, drop, length-map}
 use Rattle.reading.specs.declared.RuleEngineMode.{RuleEngineMode}
 use Rattle.reading.specs.Controls.{isOff}
 use Rattle.reading.specs.Call.{Call, ruleCount, modeUnder}
 use Rattle.reading.specs.Walk.{verdictAt, visitAt}
 use Rattle.control.specs.Held.{controlsOf, Became}
+use Rattle.control.specs.declared.Controls.{Controls}
+use Rattle.coded.specs.Lent.{structOf, Whole}
+use Rattle.coded.proofs.LentLaws.{struct-same, whole-same}
 use Rattle.intervention.specs.Ends.{endBy}
 use Rattle.members.specs.Given.{Rest}
 use Rattle.text.proofs.RecordLaws.{length-rules}
@@ -40,21 +43,34 @@ restOf q = record {
 
 abbrev Inv-loop : tie.InvT-loop
 Inv-loop listed-before written-before phase mode status rules actions markers text outcomes codes ids₀ entries₀ journal₀
-    ruleset-mode n c₀ s₀ visits₀ listed₀ written₀ ids entries journal c s visits listed written = let t = fresh c₀ listed₀
-    written₀ in
+    ruleset-mode n starts₀ ends₀ phases₀ positions₀ h₀ s₀ visits₀ listed₀ written₀ ids entries journal starts ends phases
+    positions h s visits listed written = let t = fresh (structOf h₀ starts₀ ends₀ phases₀ positions₀) listed₀ written₀ in
     Sofar (callOf phase mode status rules actions markers text outcomes t ids₀ entries₀ journal₀) t ids₀ entries₀ journal₀ ids
-    entries journal c s visits listed written
+    entries journal (structOf h starts ends phases positions) s visits listed written
+    × Whole starts ends phases positions
 
 abbrev μ-loop : tie.MeasureT-loop
 μ-loop listed-before written-before phase mode status rules actions markers text outcomes codes ids₀ entries₀ journal₀
-    ruleset-mode n c₀ s₀ visits₀ listed₀ written₀ ids entries journal c s visits listed written = length rules / 5 - s .next
+    ruleset-mode n starts₀ ends₀ phases₀ positions₀ h₀ s₀ visits₀ listed₀ written₀ ids entries journal starts ends phases
+    positions h s visits listed written = length rules / 5 - s .next
+
+-- the arrays of a struct have their lengths
+arrays-whole : (c : tie.Start Inv-loop μ-loop) → Whole (c .args .held .starts) (c .args .held .ends) (c .args .held .phases)
+    (c .args .held .positions)
+arrays-whole c = record {
+  starts-256 = sym (length-map (c .args .held .starts) _) ∙ c .good .0 .1 .1 .1 .0 .1 .0 .1;
+  ends-256 = sym (length-map (c .args .held .ends) _) ∙ c .good .0 .1 .1 .1 .1 .0 .1 .0 .1;
+  phases-64 = sym (length-map (c .args .held .phases) _) ∙ c .good .0 .1 .1 .1 .1 .1 .1 .0 .1 .0 .1;
+  positions-64 = sym (length-map (c .args .held .positions) _) ∙ c .good .0 .1 .1 .1 .1 .1 .1 .1 .0 .1 .0 .1;
+}
 
 -- earlier places, seen from later ones
 abbrev entered : tie.At-loop Inv-loop μ-loop → tie.Start Inv-loop μ-loop
-entered c = c .before .before .before .before .before .before .before .before .before .before .before
+entered c = c .before .before .before .before .before .before .before .before .before .before .before .before .before .before
+    .before .before
 
 abbrev head : tie.After-visit Inv-loop μ-loop → tie.At-loop Inv-loop μ-loop
-head c = c .before .before .before .before .before .before .before
+head c = c .before .before .before .before .before .before
 
 abbrev visited : tie.After-put-visit Inv-loop μ-loop → tie.After-visit Inv-loop μ-loop
 visited c = c .before .before
@@ -67,6 +83,13 @@ closed c = c .before .before .before .before .before .before .before .before .be
 
 abbrev settled : tie.After-is-last Inv-loop μ-loop → tie.Joined2 Inv-loop μ-loop
 settled c = c .before .before .before .before
+
+-- the controls that the locals make up, at the head of a turn and where its ways have met
+abbrev held-at : (c : tie.At-loop Inv-loop μ-loop) → Controls
+held-at c = structOf (c .loop .h) (c .loop .starts) (c .loop .ends) (c .loop .phases) (c .loop .positions)
+
+abbrev held-now : (c : tie.Joined2 Inv-loop μ-loop) → Controls
+held-now c = structOf (c .if2 .h) (c .if2 .starts) (c .if2 .ends) (c .if2 .phases) (c .if2 .positions)
 
 -- the call and the transaction, at the head of a turn
 abbrev T : (c : tie.At-loop Inv-loop μ-loop) → Transaction
@@ -91,38 +114,37 @@ journal-as-lent : (c : tie.At-loop Inv-loop μ-loop) → length (c .loop .journa
 journal-as-lent c =
     journal-same (Q c) (T c) (now (entered c .args .codes)) (now (entered c .args .ids)) (now (entered c .args .entries))
     (now (entered c .args .journal)) (ready c)
-    (c .loop .ids) (c .loop .entries) (c .loop .journal) (c .loop .c) (c .loop .s) (c .loop .visits) (c .loop .listed)
-    (c .loop .written) (c .loop .inv)
+    (c .loop .ids) (c .loop .entries) (c .loop .journal) (held-at c) (c .loop .s) (c .loop .visits) (c .loop .listed)
+    (c .loop .written) (c .loop .inv .0)
 
 ids-as-lent : (c : tie.At-loop Inv-loop μ-loop) → length (c .loop .ids) ≡ length (now (entered c .args .ids))
 ids-as-lent c =
     ids-same (Q c) (T c) (now (entered c .args .codes)) (now (entered c .args .ids)) (now (entered c .args .entries))
     (now (entered c .args .journal)) (ready c)
-    (c .loop .ids) (c .loop .entries) (c .loop .journal) (c .loop .c) (c .loop .s) (c .loop .visits) (c .loop .listed)
-    (c .loop .written) (c .loop .inv)
+    (c .loop .ids) (c .loop .entries) (c .loop .journal) (held-at c) (c .loop .s) (c .loop .visits) (c .loop .listed)
+    (c .loop .written) (c .loop .inv .0)
 
 entries-as-lent : (c : tie.At-loop Inv-loop μ-loop) → length (c .loop .entries) ≡ length (now (entered c .args .entries))
 entries-as-lent c =
     entries-same (Q c) (T c) (now (entered c .args .codes)) (now (entered c .args .ids)) (now (entered c .args .entries))
     (now (entered c .args .journal)) (ready c)
-    (c .loop .ids) (c .loop .entries) (c .loop .journal) (c .loop .c) (c .loop .s) (c .loop .visits) (c .loop .listed)
-    (c .loop .written) (c .loop .inv)
+    (c .loop .ids) (c .loop .entries) (c .loop .journal) (held-at c) (c .loop .s) (c .loop .visits) (c .loop .listed)
+    (c .loop .written) (c .loop .inv .0)
 
-ranges-fit : (c : tie.At-loop Inv-loop μ-loop) → c .loop .c .ranges ≤ 256
+ranges-fit : (c : tie.At-loop Inv-loop μ-loop) → held-at c .ranges ≤ 256
 ranges-fit c =
     few-ranges (Q c) (T c) (now (entered c .args .codes)) (now (entered c .args .ids)) (now (entered c .args .entries))
     (now (entered c .args .journal)) (ready c)
-    (c .loop .ids) (c .loop .entries) (c .loop .journal) (c .loop .c) (c .loop .s) (c .loop .visits) (c .loop .listed)
-    (c .loop .written) (c .loop .inv)
+    (c .loop .ids) (c .loop .entries) (c .loop .journal) (held-at c) (c .loop .s) (c .loop .visits) (c .loop .listed)
+    (c .loop .written) (c .loop .inv .0)
 
 found-is : (c : tie.After-verdict-at Inv-loop μ-loop) → c .verdict-at .result ≡ verdictAt
-    (Q (c .before .before .before .before .before .before))
-    (controlsOf (c .before .before .before .before .before .before .loop .c))
-    (c .before .before .before .before .before .before .loop .s .next)
+    (Q (c .before .before .before .before .before)) (controlsOf (held-at (c .before .before .before .before .before)))
+    (c .before .before .before .before .before .loop .s .next)
 found-is c =
-    found-law (Q (c .before .before .before .before .before .before)) (c .before .before .before .before .before .before .loop .c)
-    (c .before .before .before .before .before .before .loop .s .next) (c .verdict-at .result)
-    (ranges-fit (c .before .before .before .before .before .before)) (c .verdict-at .ensures)
+    found-law (Q (c .before .before .before .before .before)) (held-at (c .before .before .before .before .before))
+    (c .before .before .before .before .before .loop .s .next) (c .verdict-at .result)
+    (ranges-fit (c .before .before .before .before .before)) (c .verdict-at .ensures)
 
 -- what is known where the turn's rule has been visited
 abbrev turn : (c : tie.After-visit Inv-loop μ-loop) → Turning
@@ -138,13 +160,13 @@ turn c = record {
   ids = head c .loop .ids;
   entries = head c .loop .entries;
   journal = head c .loop .journal;
-  c = head c .loop .c;
+  c = held-at (head c);
   s = head c .loop .s;
   visits = head c .loop .visits;
   listed = head c .loop .listed;
   written = head c .loop .written;
-  so = head c .loop .inv;
-  inside = inside (c .before .before .before .before .before);
+  so = head c .loop .inv .0;
+  inside = inside (c .before .before .before .before);
   found = c .before .verdict-at .result;
   found-is = found-is (c .before);
   w = c .visit .result;
@@ -229,36 +251,51 @@ goes-on c =
     (c .close-unit .ensures (restOf (Q (head (visited (recorded c))))))
 
 -- the controls, the mode and the ending
-controls-now : (c : tie.Joined2 Inv-loop μ-loop) → Became (head (visited (recorded (closed c))) .loop .c) (c .if2 .c)
+controls-now : (c : tie.Joined2 Inv-loop μ-loop) → Became (held-at (head (visited (recorded (closed c))))) (held-now c)
     (visitAt (Q (head (visited (recorded (closed c)))))
     (record {
       next = head (visited (recorded (closed c))) .loop .s .next;
       members = head (visited (recorded (closed c))) .loop
-          .inv .members;
-      controls = controlsOf (head (visited (recorded (closed c))) .loop .c);
+          .inv .0 .members;
+      controls = controlsOf (held-at (head (visited (recorded (closed c)))));
     }) .after .controls)
 controls-now c =
     ⊎-elim
     (λ w. changed-yes (turn (visited (recorded (closed c)))) (recorded (closed c) .put-visit .last .1 .1 .0)
     (recorded (closed c) .put-visit .ensures)
-    (c .before .changes .result) (c .if2 .c) (w .3 .result) (c .before .changes .ensures) (w .0 .taken) (w .4) (w .3 .ensures))
+    (c .before .changes .result) (held-now c)
+    (structOf (w .7 .result) (w .7 .last .1 .1 .1 .1 .1 .1 .1 .0) (w .7 .last .1 .1 .1 .1 .1 .1 .1 .1 .0)
+    (w .7 .last .1 .1 .1 .1 .1 .1 .1 .1 .1 .0) (w .7 .last .1 .1 .1 .1 .1 .1 .1 .1 .1 .1 .0)) (c .before .changes .ensures)
+    (w .0 .taken) (struct-same (w .16) (w .12) (w .13) (w .14) (w .15))
+    (w .7 .ensures .0 (head (visited (recorded (closed c))) .loop .inv .1) .became))
     (λ w. changed-no (turn (visited (recorded (closed c)))) (recorded (closed c) .put-visit .last .1 .1 .0)
     (recorded (closed c) .put-visit .ensures)
-    (c .before .changes .result) (c .if2 .c) (c .before .changes .ensures) (w .0 .left) (w .1))
+    (c .before .changes .result) (held-now c) (c .before .changes .ensures) (w .0 .left)
+    (struct-same (w .5) (w .1) (w .2) (w .3) (w .4)))
+    (c .if2 .came)
+
+whole-now : (c : tie.Joined2 Inv-loop μ-loop) → Whole (c .if2 .starts) (c .if2 .ends) (c .if2 .phases) (c .if2 .positions)
+whole-now c =
+    ⊎-elim
+    (λ w. whole-same (w .12) (w .13) (w .14) (w .15)
+    (w .7 .ensures .0 (head (visited (recorded (closed c))) .loop .inv .1) .whole))
+    (λ w. whole-same (w .1) (w .2) (w .3) (w .4) (head (visited (recorded (closed c))) .loop .inv .1))
     (c .if2 .came)
 
 mode-is : (c : tie.After-mode-under Inv-loop μ-loop) → c .mode-under .result ≡ modeUnder
-    (Q (head (visited (recorded (closed (c .before .before)))))) (controlsOf (c .before .before .if2 .c))
+    (Q (head (visited (recorded (closed (c .before .before)))))) (controlsOf (held-now (c .before .before)))
 mode-is c =
-    mode-law (Q (head (visited (recorded (closed (c .before .before)))))) (c .before .before .if2 .c)
-    ((head (visited (recorded (closed (c .before .before))))) .before .mode-numbered .result) (c .mode-under .result)
-    ((head (visited (recorded (closed (c .before .before))))) .before .mode-numbered .ensures) (c .mode-under .ensures)
+    mode-law (Q (head (visited (recorded (closed (c .before .before)))))) (held-now (c .before .before))
+    ((head (visited (recorded (closed (c .before .before))))) .before .before .before .before .before .before .mode-numbered
+    .result) (c .mode-under .result)
+    ((head (visited (recorded (closed (c .before .before))))) .before .before .before .before .before .before .mode-numbered
+    .ensures) (c .mode-under .ensures)
 
 end-is : (c : tie.After-end-of Inv-loop μ-loop)
     → c .end-of .result ≡ endBy ((visited (recorded (closed (c .before .before .before)))) .before .verdict-at .result)
     (closed (c .before .before .before) .close-unit .result .disruptive)
     (modeUnder (Q (head (visited (recorded (closed (c .before .before .before))))))
-    (controlsOf (c .before .before .before .if2 .c)))
+    (controlsOf (held-now (c .before .before .before))))
 end-is c =
     c .end-of .ensures
     ∙ ap (endBy ((visited (recorded (closed (c .before .before .before)))) .before .verdict-at .result)
@@ -266,7 +303,7 @@ end-is c =
 
 last-by : (c : tie.After-is-last Inv-loop μ-loop) (b : Bool) → c .is-last .result ≡ b
     → (not (isGoing (c .before .end-of .result)) || isOff
-    (modeUnder (Q (head (visited (recorded (closed (settled c)))))) (controlsOf (settled c .if2 .c)))) ≡ b
+    (modeUnder (Q (head (visited (recorded (closed (settled c)))))) (controlsOf (held-now (settled c))))) ≡ b
 last-by c b e =
     ap (λ (m : RuleEngineMode). not (isGoing (c .before .end-of .result)) || isOff m) (sym (mode-is (c .before .before))) ∙
     (sym (c .is-last .ensures) ∙ e)
@@ -275,12 +312,17 @@ mode-numbered-requires : tie.Need-mode-numbered-requires Inv-loop μ-loop
 mode-numbered-requires c κs = tt
 
 loop-holds : tie.Need-loop-holds Inv-loop μ-loop
-loop-holds c = let a = c .before .before .before .before .before .before .before .before .before .before .args in
-    let t = fresh (a .held) (a .listed-before) (a .written-before) in
-    sofar-none (callOf (a .phase) (a .mode) (a .status) (now (a .rules)) (now (a .actions)) (now (a .markers)) (now (a .text))
-    (now (a .outcomes)) t (now (a .ids)) (now (a .entries)) (now (a .journal)))
-    t (now (a .codes)) (now (a .ids)) (now (a .entries)) (now (a .journal)) refl
-    (c .before .before .before .before .before .before .before .before .before .before .pre)
+loop-holds c = let a = c .before .before .before .before .before .before .before .before .before .before .before .before .before
+    .before .before .args in
+    let t = fresh (a .held) (a .listed-before) (a .written-before) in (
+      sofar-none (callOf (a .phase) (a .mode) (a .status) (now (a .rules)) (now (a .actions)) (now (a .markers)) (now (a .text))
+          (now (a .outcomes)) t (now (a .ids)) (now (a .entries)) (now (a .journal)))
+          t (now (a .codes)) (now (a .ids)) (now (a .entries)) (now (a .journal)) refl
+          (c .before .before .before .before .before .before .before .before .before .before .before .before .before .before .before
+          .pre),
+      arrays-whole (c .before .before .before .before .before .before .before .before .before .before .before .before
+          .before .before .before),
+    )
 
 verdict-at-requires : tie.Need-verdict-at-requires Inv-loop μ-loop
 verdict-at-requires c κs = tt
@@ -393,6 +435,30 @@ part-unit-controls-end : tie.Need-part-unit-controls-end Inv-loop μ-loop
 part-unit-controls-end c = unit-to
     (recorded (c .before .before .before .before .before .before .before .before .before .before .before))
 
+slice-aggregate-unit-controls : tie.Need-slice-aggregate-unit-controls Inv-loop μ-loop
+slice-aggregate-unit-controls c = sym
+    (head (visited (recorded
+    (c .before .before .before .before .before .before .before .before .before .before .before .before .before))) .loop .inv .1
+    .starts-256)
+
+slice-aggregate-unit-controls-2 : tie.Need-slice-aggregate-unit-controls-2 Inv-loop μ-loop
+slice-aggregate-unit-controls-2 c = sym
+    (head (visited (recorded
+    (c .before .before .before .before .before .before .before .before .before .before .before .before .before .before))) .loop
+    .inv .1 .ends-256)
+
+slice-aggregate-unit-controls-3 : tie.Need-slice-aggregate-unit-controls-3 Inv-loop μ-loop
+slice-aggregate-unit-controls-3 c = sym
+    (head (visited (recorded
+    (c .before .before .before .before .before .before .before .before .before .before .before .before .before .before .before)))
+    .loop .inv .1 .phases-64)
+
+slice-aggregate-unit-controls-4 : tie.Need-slice-aggregate-unit-controls-4 Inv-loop μ-loop
+slice-aggregate-unit-controls-4 c = sym
+    (head (visited (recorded
+    (c .before .before .before .before .before .before .before .before .before .before .before .before .before .before .before
+    .before))) .loop .inv .1 .positions-64)
+
 unit-controls-requires : tie.Need-unit-controls-requires Inv-loop μ-loop
 unit-controls-requires c κs = tt
 
@@ -463,7 +529,7 @@ returns c = rw (c .ended .ensures)
     (closed (settled (c .before .before .before .before .before)) .close-unit .last .1 .1 .1 .1 .1 .1 .1 .1 .1 .1 .0)
     (closed (settled (c .before .before .before .before .before)) .close-unit .ensures
     (restOf (Q (head (visited (recorded (closed (settled (c .before .before .before .before .before)))))))))
-    (settled (c .before .before .before .before .before) .if2 .c)
+    (held-now (settled (c .before .before .before .before .before)))
     (controls-now (settled (c .before .before .before .before .before)))
     (c .before .before .before .before .before .before .end-of .result)
     (end-is (c .before .before .before .before .before .before))
@@ -480,42 +546,48 @@ loop-less c = omega (
   arith,
   goes-on (closed (settled (c .before))),
   (visited (recorded (closed (settled (c .before))))) .before
-      .before .before .before .before .if1 .taken,
+      .before .before .before .if1 .taken,
 )
 
 loop-again : tie.Need-loop-again Inv-loop μ-loop
-loop-again c = sofar-more (turn (visited (recorded (closed (settled (c .before))))))
-    (recorded (closed (settled (c .before))) .put-visit .last .1 .1 .0)
-    (recorded (closed (settled (c .before))) .put-visit .ensures)
-    (closed (settled (c .before)) .close-unit .result)
-    (closed (settled (c .before)) .close-unit .last .1 .1 .1 .1 .1 .1 .1 .1 .1 .0)
-    (closed (settled (c .before)) .close-unit .last .1 .1 .1 .1 .1 .1 .1 .1 .1 .1 .0)
-    (closed (settled (c .before)) .close-unit .ensures (restOf (Q (head (visited (recorded (closed (settled (c .before)))))))))
-    (settled (c .before) .if2 .c) (controls-now (settled (c .before))) (c .before .before .end-of .result)
-    (end-is (c .before .before))
-    (last-by (c .before) false (c .if3 .left))
+loop-again c = (
+  sofar-more (turn (visited (recorded (closed (settled (c .before))))))
+      (recorded (closed (settled (c .before))) .put-visit .last .1 .1 .0)
+      (recorded (closed (settled (c .before))) .put-visit .ensures)
+      (closed (settled (c .before)) .close-unit .result)
+      (closed (settled (c .before)) .close-unit .last .1 .1 .1 .1 .1 .1 .1 .1 .1 .0)
+      (closed (settled (c .before)) .close-unit .last .1 .1 .1 .1 .1 .1 .1 .1 .1 .1 .0)
+      (closed (settled (c .before)) .close-unit .ensures (restOf (Q (head (visited (recorded (closed (settled (c .before)))))))))
+      (held-now (settled (c .before))) (controls-now (settled (c .before))) (c .before .before .end-of .result)
+      (end-is (c .before .before))
+      (last-by (c .before) false (c .if3 .left)),
+  whole-now (settled (c .before)),
+)
 
 ended-requires-2 : tie.Need-ended-requires-2 Inv-loop μ-loop
 ended-requires-2 c κs = tt
 
 same-length-4 : tie.Need-same-length-4 Inv-loop μ-loop
-same-length-4 c = ids-as-lent (c .before .before .before)
+same-length-4 c = ids-as-lent (c .before .before .before .before)
 
 same-length-5 : tie.Need-same-length-5 Inv-loop μ-loop
-same-length-5 c = entries-as-lent (c .before .before .before)
+same-length-5 c = entries-as-lent (c .before .before .before .before)
 
 same-length-6 : tie.Need-same-length-6 Inv-loop μ-loop
-same-length-6 c = journal-as-lent (c .before .before .before)
+same-length-6 c = journal-as-lent (c .before .before .before .before)
 
 returns-2 : tie.Need-returns-2 Inv-loop μ-loop
 returns-2 c = rw (c .ended2 .ensures)
-    (sofar-end (Q (c .before .before .before)) (T (c .before .before .before))
-    (now (entered (c .before .before .before) .args .ids)) (now (entered (c .before .before .before) .args .entries))
-    (now (entered (c .before .before .before) .args .journal)) (c .before .before .before .loop .ids)
-    (c .before .before .before .loop .entries) (c .before .before .before .loop .journal) (c .before .before .before .loop .c)
-    (c .before .before .before .loop .s) (c .before .before .before .loop .visits)
-    (c .before .before .before .loop .listed) (c .before .before .before .loop .written) (c .before .before .before .loop .inv)
-    (omega (arith, c .before .if1 .left, length-rules (now (entered (c .before .before .before) .args .rules)))))
+    (sofar-end (Q (c .before .before .before .before)) (T (c .before .before .before .before))
+    (now (entered (c .before .before .before .before) .args .ids))
+    (now (entered (c .before .before .before .before) .args .entries))
+    (now (entered (c .before .before .before .before) .args .journal)) (c .before .before .before .before .loop .ids)
+    (c .before .before .before .before .loop .entries) (c .before .before .before .before .loop .journal)
+    (held-at (c .before .before .before .before)) (c .before .before .before .before .loop .s)
+    (c .before .before .before .before .loop .visits)
+    (c .before .before .before .before .loop .listed) (c .before .before .before .before .loop .written)
+    (c .before .before .before .before .loop .inv .0)
+    (omega (arith, c .before .before .if1 .left, length-rules (now (entered (c .before .before .before .before) .args .rules)))))
 
 pub walk-rules-spec : {M : Type 1} → statement M
 walk-rules-spec =
@@ -561,6 +633,10 @@ walk-rules-spec =
     sub-unit-controls
     part-unit-controls-start
     part-unit-controls-end
+    slice-aggregate-unit-controls
+    slice-aggregate-unit-controls-2
+    slice-aggregate-unit-controls-3
+    slice-aggregate-unit-controls-4
     unit-controls-requires
     mode-under-requires
     end-of-requires
