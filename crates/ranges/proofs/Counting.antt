@@ -7,10 +7,10 @@ use native.Mathlib.Omega.{arith}
 use lib.Dec.{eqb}
 use lib.ListN.{length, take, drop, length-append}
 use Rattle.reading.specs.declared.IdPart.{IdPart}
-use Rattle.reading.specs.Text.{indexOf, idPart, isBad, rangeIn, idParts, anyBad, rangesIn}
+use Rattle.reading.specs.Text.{trimStart, trimEnd, trim, indexOf, idPart, isBad, rangeIn, idParts, anyBad, rangesIn}
 use Rattle.reading.specs.Directive.{removalValue, unsupported, ruleRemoveById}
 use Rattle.ranges.specs.declared.RangeCount.{RangeCount}
-use Rattle.ranges.specs.Ranges.{countOf, countIn}
+use Rattle.ranges.specs.Ranges.{countOf, countIn, kindOf}
 use Rattle.ranges.proofs.Parts.{later, part-is, parts-are, parts-last, parts-more}
 
 -- the count with n ranges passed and the parts ps to come
@@ -72,3 +72,23 @@ module _ (s : List ℕ) (n at k : ℕ) (part : IdPart)
       ap (countFrom n) (parts-more s at k part ke pe h)
       ∙ (count-more n (take k (drop at s)) (idParts (drop (at + (k + 1)) s)) (ap isBad is ∙ e)
       ∙ ap (λ (q : IdPart). countFrom (n + length (rangeIn q)) (idParts (drop (at + (k + 1)) s))) is)
+
+-- what the number of a part's kind says of the part
+pub kind-bad : (part : IdPart) (m : ℕ) → m ≡ kindOf part → m ≡ 2 → isBad part ≡ true
+kind-bad IdPart.Blank m e h = absurd (omega (arith, e, h))
+kind-bad IdPart.Bad m e h = refl
+kind-bad (IdPart.Range r) m e h = absurd (omega (arith, e, h))
+
+pub kind-good : (part : IdPart) (m : ℕ) → m ≡ kindOf part → (m ≡ 2 → ⊥) → isBad part ≡ false
+kind-good IdPart.Blank m e h = refl
+kind-good IdPart.Bad m e h = absurd (h e)
+kind-good (IdPart.Range r) m e h = refl
+
+pub kind-counts : (part : IdPart) (m : ℕ) → m ≡ kindOf part → (m ≡ 2 → ⊥) → (m ≡ length (rangeIn part)) × (m ≤ 1)
+kind-counts IdPart.Blank m e h = (e, omega (arith, e))
+kind-counts IdPart.Bad m e h = absurd (h e)
+kind-counts (IdPart.Range r) m e h = (e, omega (arith, e))
+
+pub empty-blank : (k : ℕ) (s : List ℕ) → k ≡ 0 → idPart (take k s) ≡ IdPart.Blank
+unfolding idPart trim trimStart trimEnd
+empty-blank k s e = rw e refl

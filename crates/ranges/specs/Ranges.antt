@@ -26,6 +26,12 @@ countIn (requestBodyAccess a) = RangeCount.Unsupported
 countIn (requestBodyProcessor p) = RangeCount.Unsupported
 countIn unsupported = RangeCount.Unsupported
 
+-- what a part counts as: a blank one 0, a range 1, a bad one 2
+abbrev pub kindOf : IdPart → ℕ
+kindOf IdPart.Blank = 0
+kindOf (IdPart.Range r) = 1
+kindOf IdPart.Bad = 2
+
 -- a part's range, where both lists have the place k
 abbrev pub fitting : List ℕ → List ℕ → ℕ → IdPart → List RuleIdRange
 fitting starts ends k part = keep (ltb k (min (length starts) (length ends))) (rangeIn part)

@@ -7,9 +7,9 @@ use reading::RuleIdRange;
 ghost use mathlib.Core.Path.{_≡_};
 ghost use Prim.Native.Nat.{_<_, _≤_, suc};
 ghost use lib.ListN.{length, take, drop};
-ghost use Rattle.reading.specs.Text.{trim, numberOf, idsFrom, idPart, isBad, rangeIn};
+ghost use Rattle.reading.specs.Text.{trim, numberOf, idsFrom, idPart};
 ghost use Rattle.reading.specs.Directive.{removalValue};
-ghost use Rattle.ranges.specs.Ranges.{countOf, countIn, Put, Written};
+ghost use Rattle.ranges.specs.Ranges.{countOf, countIn, kindOf, Put, Written};
 
 // The range between the two numbers around the index k.
 fn ids_around(t: &[u8], k: usize) -> IdPart
@@ -49,25 +49,53 @@ fn id_part(p: &[u8]) -> IdPart
     IdPart::Range(RuleIdRange { start: id, end: id })
 }
 
-fn is_bad(part: IdPart) -> bool
-    ensures { λ r. ⌜ r ≡ isBad part ⌝ }
+// What the two numbers around the index k count as, as `part_kind` says it. The numbers are not kept.
+fn pair_kind(t: &[u8], k: usize) -> u64
+    requires { ⌜ k < length (now t) ⌝ }
+    ensures { λ r. ⌜ r ≡ kindOf (idsFrom (numberOf (trim (take k (now (t .entry))))) (numberOf (trim (drop (suc k) (now (t .entry)))))) ⌝ }
 {
-    match part {
-        IdPart::Blank => false,
-        IdPart::Bad => true,
-        IdPart::Range(_) => false,
+    let before = text::trimmed(&t[..k]);
+    let Number::Value(start) = number::read_number(before) else {
+        return 2; // the first is not a number
+    };
+    let from = k + 1;
+    let behind = text::trimmed(&t[from..]);
+    let Number::Value(end) = number::read_number(behind) else {
+        return 2; // the second is not a number
+    };
+    if end < start {
+        return 2; // the first is above the second
     }
+    1
 }
 
-// How many ranges a part gives: one or none.
-fn ranges_in(part: IdPart) -> usize
-    ensures { λ r. ⌜ (r ≡ length (rangeIn part)) × (r ≤ 1) ⌝ }
+// What one part counts as: 0 blank, 1 a range, 2 bad.
+fn part_kind(p: &[u8]) -> u64
+    ensures { λ r. ⌜ r ≡ kindOf (idPart (now (p .entry))) ⌝ }
 {
-    match part {
-        IdPart::Blank => 0,
-        IdPart::Bad => 0,
-        IdPart::Range(_) => 1,
+    let t = text::trimmed(p);
+    if t.len() == 0 {
+        return 0;
     }
+    let k = text::find(t, b'-');
+    if k < t.len() {
+        return pair_kind(t, k);
+    }
+    let Number::Value(_) = number::read_number(t) else {
+        return 2; // the only one is not a number
+    };
+    1
+}
+
+// What the part before a comma counts as; an empty one is blank.
+fn kind_before(rest: &[u8], comma: usize) -> u64
+    requires { ⌜ comma ≤ length (now rest) ⌝ }
+    ensures { λ r. ⌜ r ≡ kindOf (idPart (take comma (now (rest .entry)))) ⌝ }
+{
+    if comma == 0 {
+        return 0;
+    }
+    part_kind(&rest[..comma])
 }
 
 // How many ranges a supported list has.
@@ -95,11 +123,11 @@ pub fn count_ranges(value: &[u8]) -> RangeCount
     loop {
         let rest = &value[at..];
         let comma = text::find(rest, b',');
-        let part = id_part(&rest[..comma]);
-        if is_bad(part) {
+        let kind = kind_before(rest, comma);
+        if kind == 2 {
             return RangeCount::Unsupported;
         }
-        n += ranges_in(part);
+        n += kind as usize;
         if value.len() - at <= comma {
             return counted(n);
         }
