@@ -130,6 +130,13 @@ sharing first count = record { present = 0; id = 0; link = 0; first = first; cou
 abbrev times : {A : Type 0} → ℕ → A → List A
 times n a = replicate n a
 
+-- the call with its first rule's one target action so many times over, and then its other actions; all point at the one text
+abbrev repeating : ℕ → List Rule → List Action → Call → Call
+repeating n rules others q = withRecords (sharing 0 n ∷ rules) (times n (action 19 0 0 20 20 3) ++ others) [] (q .text) (q .outcomes) q
+
+abbrev target : Written
+target = noId (ctl "ruleRemoveTargetById" "1;A" ∷ [])
+
 abbrev told : String → String → Bool → Told
 told directive value supported = record { directive = directive; value = value; supported = supported }
 
@@ -360,11 +367,11 @@ points =
     (record { visits = matched 0 ∷ []; ids = 10 ∷ []; data-entries = entry 10 0 ∷ []; allowed = false; stop = none })
     256 (1 ∷ 7 ∷ []) (10 ∷ []) []
     -- and so are 64 targets
-    ∷ targeting "D20e" (call (noId (times 64 (ctl "ruleRemoveTargetById" "1;A")) ∷ []) [])
+    ∷ targeting "D20e" (repeating 64 [] [] (call (target ∷ []) []))
     (record { visits = matched 0 ∷ []; ids = []; data-entries = noIdEntry 0 ∷ []; allowed = false; stop = none }) 64
     -- 9: targets, and 8 comes first
-    ∷ refused "D22a" (callWith rust RuleEngineMode.On noControls false (noId (times 65 (ctl "ruleRemoveTargetById" "1;A")) ∷ []) []) 9
-    ∷ refused "D22b" (callWith rust RuleEngineMode.On (holding (times 256 (range 1 1))) false (noId (times 65 (ctl "ruleRemoveTargetById" "1;A")) ∷ rule 11 (ctl "ruleRemoveById" "7" ∷ []) ∷ []) []) 8
+    ∷ refused "D22a" (repeating 65 [] [] (call (target ∷ []) [])) 9
+    ∷ refused "D22b" (repeating 65 (sharing 65 1 ∷ []) (action 19 0 23 14 37 1 ∷ []) (callHolding (times 256 (range 1 1)) (target ∷ noId (ctl "ruleRemoveById" "7" ∷ []) ∷ []))) 8
     -- a call that would do nothing is refused too
     ∷ rowOf "D23" (withJournal [] (callWith rust RuleEngineMode.On noControls true (rule 10 [] ∷ []) [])) 7 0 (record { visits = []; ids = []; data-entries = []; allowed = true; stop = none }) 0 0 [] [] []
     -- the manual's reading: deny has the starter's last status action as its status
