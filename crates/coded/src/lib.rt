@@ -12,7 +12,7 @@ use reading::Rule;
 use reading::RuleEngineMode;
 ghost use Prim.Native.Nat.{_+_, _-_, min};
 ghost use mathlib.Core.Path.{_≡_};
-ghost use mathlib.Core.Bool.{_&&_};
+ghost use mathlib.Core.Bool.{_&&_, cond};
 ghost use mathlib.Core.List.{[], _∷_};
 ghost use lib.Dec.{eqb};
 ghost use lib.ListN.{length, getD};
@@ -319,7 +319,7 @@ fn entry_changes(index: u64, verdict: u64, rules: &[u64], codes: &[u16]) -> bool
 }
 
 // Whether a closed unit has a member with an action that changes the controls.
-pub fn changes(closes: bool, entries: &[u64], rules: &[u64], codes: &[u16]) -> bool
+fn changes(closes: bool, entries: &[u64], rules: &[u64], codes: &[u16]) -> bool
     ensures { λ r. ⌜ r ≡ (closes && unitChanges (now (codes .entry)) (ruleList (now (rules .entry))) (matchedIn (journalList (now (entries .entry))))) ⌝ }
 {
     if !closes {
@@ -382,8 +382,10 @@ fn members_controls(
     r
 }
 
-// The controls after a unit. Lists of other lengths than the arrays of the controls are left as they are.
+// The controls after a visit: those after its unit, where one closes. Where no action of the unit changes them, as for most, no
+// more than that is looked at. Lists of other lengths than the arrays of the controls are left as they are.
 pub fn unit_controls(
+    closes: bool,
     h: Held,
     entries: &[u64],
     rules: &[u64],
@@ -399,13 +401,17 @@ pub fn unit_controls(
     ensures { λ r. ⌜ (Whole (now (starts .entry)) (now (ends .entry)) (now (phases .entry)) (now (positions .entry))
         → Turned h (now (starts .entry)) (now (ends .entry)) (now (phases .entry)) (now (positions .entry))
         r (now (starts .exit)) (now (ends .exit)) (now (phases .exit)) (now (positions .exit))
-        (unitCoded (record { phase = phase; text = now (text .entry); actions = actionList (now (actions .entry)) }) (now (codes .entry))
+        (cond closes (unitCoded (record { phase = phase; text = now (text .entry); actions = actionList (now (actions .entry)) }) (now (codes .entry))
         (ruleList (now (rules .entry))) (matchedIn (journalList (now (entries .entry))))
+        (controlsOf (structOf h (now (starts .entry)) (now (ends .entry)) (now (phases .entry)) (now (positions .entry)))))
         (controlsOf (structOf h (now (starts .entry)) (now (ends .entry)) (now (phases .entry)) (now (positions .entry)))))) ⌝ }
     ensures { λ r. ⌜ ((Whole (now (starts .entry)) (now (ends .entry)) (now (phases .entry)) (now (positions .entry)) → ⊥)
         → Left h (now (starts .entry)) (now (ends .entry)) (now (phases .entry)) (now (positions .entry))
         r (now (starts .exit)) (now (ends .exit)) (now (phases .exit)) (now (positions .exit))) ⌝ }
 {
+    if !changes(closes, entries, rules, codes) {
+        return h;
+    }
     if starts.len() != 256 {
         return h;
     }

@@ -29,9 +29,9 @@ use Rattle.reading.specs.Theorems.Rising.{goes-ahead}
 use Rattle.control.specs.declared.Controls.{Controls}
 use Rattle.control.specs.Held.{controlsOf, Became}
 use Rattle.control.proofs.Chained.{became-same, became-then, became-ranges}
-use Rattle.coded.specs.Coded.{unitCoded, unitChanges}
+use Rattle.coded.specs.Coded.{unitCoded}
 use Rattle.coded.proofs.StepLaws.{Grown, grown-then}
-use Rattle.coded.proofs.Fits.{sourceOf, unit-fits, unit-idle}
+use Rattle.coded.proofs.Fits.{sourceOf, unit-fits}
 use Rattle.members.proofs.MatchedLaws.{matched-append}
 use Rattle.members.proofs.WordLaws.{length-journal-words, journal-words-append, data-words-append, length-data-words}
 use Rattle.members.proofs.WordLaws.{journal-part}
@@ -351,21 +351,18 @@ module _ (turn : Turning) where
           ap (λ (ms : List ℕ). unitCoded (sourceOf q) codes (q .rules) ms (controlsOf c)) (unit-part e)
           ∙ (unit-fits q codes 4096 (ready .digested) unit (controlsOf c) r g ∙ a)
 
-      pub changed-yes : (b : Bool) (c′ d : Controls) → b ≡ (w .closes && unitChanges codes (q .rules) part) → b ≡ true → c′ ≡ d
-          → Became c d (unitCoded (sourceOf q) codes (q .rules) part (controlsOf c)) → Became c c′ (v .after .controls)
-      changed-yes b c′ d e h is p =
-          rw is (subst (Became c d) (coded-now (and-by (w .closes) (unitChanges codes (q .rules) part) (sym e ∙ h))) p)
-
-      pub changed-no : (b : Bool) (c′ : Controls) → b ≡ (w .closes && unitChanges codes (q .rules) part) → b ≡ false → c′ ≡ c
+      pub changed : (c′ : Controls)
+          → Became c c′ (cond (w .closes) (unitCoded (sourceOf q) codes (q .rules) part (controlsOf c)) (controlsOf c))
           → Became c c′ (v .after .controls)
-      changed-no b c′ e h p = rw p (subst (Became c c) (go (w .closes) refl) (became-same c))
+      changed c′ p = subst (Became c c′) (go (w .closes) refl) p
         where
-          go : (x : Bool) → w .closes ≡ x → controlsOf c ≡ v .after .controls
+          go : (x : Bool) → w .closes ≡ x
+              → cond (w .closes) (unitCoded (sourceOf q) codes (q .rules) part (controlsOf c)) (controlsOf c) ≡ v .after .controls
           go true d =
-              let z : unitChanges codes (q .rules) part ≡ false = ap (λ (y : Bool). y && unitChanges codes (q .rules) part) (sym d)
-              ∙ (sym e ∙ h) in
-              sym (unit-idle (sourceOf q) codes (q .rules) part (controlsOf c) z) ∙ coded-now d
-          go false d = sym (controls-now ∙ ap (λ (y : Bool). cond y (unitControls q unit (controlsOf c)) (controlsOf c)) d)
+              ap (λ (y : Bool). cond y (unitCoded (sourceOf q) codes (q .rules) part (controlsOf c)) (controlsOf c)) d ∙ coded-now d
+          go false d =
+              ap (λ (y : Bool). cond y (unitCoded (sourceOf q) codes (q .rules) part (controlsOf c)) (controlsOf c)) d
+              ∙ sym (controls-now ∙ ap (λ (y : Bool). cond y (unitControls q unit (controlsOf c)) (controlsOf c)) d)
 
       -- THE LISTS
       module _ (u : Closed) (il el : List ℕ)

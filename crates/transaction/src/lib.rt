@@ -20,6 +20,7 @@ ghost use Rattle.reading.specs.Lists.{over};
 ghost use Rattle.reading.specs.Numbers.{modeNumbered, verdictNumber};
 ghost use Rattle.reading.specs.Controls.{isOff, modeOr};
 ghost use Rattle.reading.specs.Walk.{isStopped};
+ghost use Rattle.coded.specs.Lent.{structOf};
 ghost use Rattle.phase.specs.Phase.{callOf, Ran};
 ghost use Rattle.phase.specs.Walked.{fresh, isGoing, isErrs, isAllows, endedBy, Ready, Walked};
 
@@ -100,7 +101,8 @@ fn gives_allow(ending: Ending) -> bool
     }
 }
 
-// The answer of a walk that ended so at the rule `last`. The transaction had no allow and no intervention.
+// The answer of a walk that ended so at the rule `last`, the controls from their parts. The transaction had no allow and no
+// intervention.
 fn ended(
     ending: Ending,
     last: usize,
@@ -108,13 +110,27 @@ fn ended(
     ids: usize,
     entries: usize,
     stop: OptionIntervention,
-    controls: Controls,
+    h: Held,
+    starts: [u64; 256],
+    ends: [u64; 256],
+    phases: [u64; 64],
+    positions: [u64; 64],
 ) -> Phase
-    ensures { λ r. ⌜ r ≡ endedBy ending last visits ids entries stop controls ⌝ }
+    ensures { λ r. ⌜ r ≡ endedBy ending last visits ids entries stop (structOf h starts ends phases positions) ⌝ }
 {
     let answer = answer_of(ending);
     let error = error_of(ending, last);
     let allowed = gives_allow(ending);
+    let settings = h.settings;
+    let controls = Controls {
+        settings,
+        starts,
+        ends,
+        ranges: h.ranges,
+        phases,
+        positions,
+        targets: h.targets,
+    };
     Phase {
         answer,
         error,
@@ -183,15 +199,15 @@ fn walk_rules(
         put_visit(next, found, &mut journal[place..]);
         visits += 1;
         let after = v.after;
-        let closes = v.closes;
         let from = 2 * after.first;
         let to = 2 * visits;
+        let members = &journal[from..to];
         let free = 4 * written;
         let u = unit::close_unit(
-            closes,
+            v.closes,
             after.next,
             phase,
-            &journal[from..to],
+            members,
             rules,
             actions,
             markers,
@@ -202,37 +218,39 @@ fn walk_rules(
         );
         listed += u.ids;
         written += u.entries;
-        if coded::changes(closes, &journal[from..to], rules, codes) {
-            h = coded::unit_controls(
-                h,
-                &journal[from..to],
-                rules,
-                actions,
-                text,
-                codes,
-                phase,
-                &mut starts,
-                &mut ends,
-                &mut phases,
-                &mut positions,
-            );
-        }
+        h = coded::unit_controls(
+            v.closes,
+            h,
+            members,
+            rules,
+            actions,
+            text,
+            codes,
+            phase,
+            &mut starts,
+            &mut ends,
+            &mut phases,
+            &mut positions,
+        );
         let settings = h.settings;
         let now = mode_under(ruleset_mode, settings);
         let disruptive = u.disruptive;
         let e = intervention::end_of(found, disruptive, now);
         if is_last(e, now) {
-            let stop = intervention::stopped(e, &journal[from..to], rules, actions, phase, status);
-            let controls = Controls {
-                settings,
+            let stop = intervention::stopped(e, members, rules, actions, phase, status);
+            return ended(
+                e,
+                next,
+                visits,
+                listed,
+                written,
+                stop,
+                h,
                 starts,
                 ends,
-                ranges: h.ranges,
                 phases,
                 positions,
-                targets: h.targets,
-            };
-            return ended(e, next, visits, listed, written, stop, controls);
+            );
         }
         s = State {
             next: u.next,
@@ -240,16 +258,6 @@ fn walk_rules(
             first: after.first,
         };
     }
-    let settings_after = h.settings;
-    let controls = Controls {
-        settings: settings_after,
-        starts,
-        ends,
-        ranges: h.ranges,
-        phases,
-        positions,
-        targets: h.targets,
-    };
     ended(
         Ending::GoesOn,
         0,
@@ -257,7 +265,11 @@ fn walk_rules(
         listed,
         written,
         OptionIntervention::None,
-        controls,
+        h,
+        starts,
+        ends,
+        phases,
+        positions,
     )
 }
 

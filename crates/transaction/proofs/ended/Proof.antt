@@ -1,6 +1,4 @@
 -- `transaction::ended` meets its contract.
-
-use borrow.Author.Needs.{needs}
 use borrow.Author.Needs.{needs}
 use Rattle.transaction.proofs.ended.Statement.{statement}
 use Rattle.transaction.proofs.ended.Tie as tie
@@ -15,7 +13,7 @@ gives-allow-requires : tie.Need-gives-allow-requires
 gives-allow-requires c κs = search needs
 
 returns : tie.Need-returns
-returns c = rw (c .before .before .answer-of .ensures, c .before .error-of .ensures, c .gives-allow .ensures)
+returns c = rw (c .before .before .before .answer-of .ensures, c .before .before .error-of .ensures, c .before .gives-allow .ensures)
 
 pub ended-spec : {M : Type 1} → statement M
 ended-spec = tie.close (tie.spec answer-of-requires error-of-requires gives-allow-requires returns)

@@ -1,7 +1,6 @@
 -- `transaction::walk_rules` meets its contract.
 use Prim.Native.Nat.{ℕ, _+_, _-_, _*_, _/_, _≤_, _<_, _^_}
 use mathlib.Core.Path.{_≡_, refl, sym, ap, _∙_}
-use mathlib.Core.Logic.{⊎-elim}
 use mathlib.Core.Bool.{Bool, true, false, not, _||_}
 use native.Mathlib.Omega.{arith}
 use native.Mathlib.Nat.{le-refl}
@@ -15,7 +14,6 @@ use Rattle.reading.specs.Walk.{verdictAt, visitAt}
 use Rattle.control.specs.Held.{controlsOf, Became}
 use Rattle.control.specs.declared.Controls.{Controls}
 use Rattle.coded.specs.Lent.{structOf, Whole}
-use Rattle.coded.proofs.LentLaws.{struct-same, whole-same}
 use Rattle.intervention.specs.Ends.{endBy}
 use Rattle.members.specs.Given.{Rest}
 use Rattle.text.proofs.RecordLaws.{length-rules}
@@ -25,7 +23,7 @@ use Rattle.phase.specs.Walked.{fresh, isGoing, Ready}
 use Rattle.phase.proofs.Found.{found-law, mode-law}
 use Rattle.phase.proofs.Progress.{Sofar, sofar-none, sofar-end, few-ranges, journal-same, ids-same, entries-same}
 use Rattle.phase.proofs.Turn.{Turning, journal-start, journal-next, journal-free, ids-start, entries-start, part-start, part-end}
-use Rattle.phase.proofs.Turn.{listed-room, written-room, journal-kept, ids-kept, entries-kept, next-more, changed-yes, changed-no}
+use Rattle.phase.proofs.Turn.{listed-room, written-room, journal-kept, ids-kept, entries-kept, next-more, changed}
 use Rattle.phase.proofs.Turn.{sofar-last, sofar-more}
 use Rattle.transaction.proofs.walk_rules.Statement.{statement}
 use Rattle.transaction.proofs.walk_rules.Tie as tie
@@ -66,8 +64,7 @@ arrays-whole c = record {
 
 -- earlier places, seen from later ones
 abbrev entered : tie.At-loop Inv-loop μ-loop → tie.Start Inv-loop μ-loop
-entered c = c .before .before .before .before .before .before .before .before .before .before .before .before .before .before
-    .before .before
+entered c = c .before .before .before .before .before .before .before .before .before .before .before .before .before .before .before .before
 
 abbrev head : tie.After-visit Inv-loop μ-loop → tie.At-loop Inv-loop μ-loop
 head c = c .before .before .before .before .before .before
@@ -78,18 +75,19 @@ visited c = c .before .before
 abbrev recorded : tie.After-close-unit Inv-loop μ-loop → tie.After-put-visit Inv-loop μ-loop
 recorded c = c .before .before .before .before .before .before .before .before .before
 
-abbrev closed : tie.Joined2 Inv-loop μ-loop → tie.After-close-unit Inv-loop μ-loop
-closed c = c .before .before .before .before .before .before .before .before .before .before
+abbrev closed : tie.After-unit-controls Inv-loop μ-loop → tie.After-close-unit Inv-loop μ-loop
+closed c = c .before .before .before .before .before .before .before .before .before .before .before
 
-abbrev settled : tie.After-is-last Inv-loop μ-loop → tie.Joined2 Inv-loop μ-loop
-settled c = c .before .before .before .before
+abbrev settled : tie.After-is-last Inv-loop μ-loop → tie.After-unit-controls Inv-loop μ-loop
+settled c = c .before .before .before .before .before .before .before .before
 
--- the controls that the locals make up, at the head of a turn and where its ways have met
+-- the controls that the locals make up, at the head of a turn and after its unit
 abbrev held-at : (c : tie.At-loop Inv-loop μ-loop) → Controls
 held-at c = structOf (c .loop .h) (c .loop .starts) (c .loop .ends) (c .loop .phases) (c .loop .positions)
 
-abbrev held-now : (c : tie.Joined2 Inv-loop μ-loop) → Controls
-held-now c = structOf (c .if2 .h) (c .if2 .starts) (c .if2 .ends) (c .if2 .phases) (c .if2 .positions)
+abbrev held-now : (c : tie.After-unit-controls Inv-loop μ-loop) → Controls
+held-now c = structOf (c .unit-controls .result) (c .unit-controls .last .1 .1 .1 .1 .1 .1 .1 .1 .0) (c .unit-controls .last .1 .1 .1 .1 .1 .1 .1 .1 .1 .0)
+    (c .unit-controls .last .1 .1 .1 .1 .1 .1 .1 .1 .1 .1 .0) (c .unit-controls .last .1 .1 .1 .1 .1 .1 .1 .1 .1 .1 .1 .0)
 
 -- the call and the transaction, at the head of a turn
 abbrev T : (c : tie.At-loop Inv-loop μ-loop) → Transaction
@@ -251,7 +249,7 @@ goes-on c =
     (c .close-unit .ensures (restOf (Q (head (visited (recorded c))))))
 
 -- the controls, the mode and the ending
-controls-now : (c : tie.Joined2 Inv-loop μ-loop) → Became (held-at (head (visited (recorded (closed c))))) (held-now c)
+controls-now : (c : tie.After-unit-controls Inv-loop μ-loop) → Became (held-at (head (visited (recorded (closed c))))) (held-now c)
     (visitAt (Q (head (visited (recorded (closed c)))))
     (record {
       next = head (visited (recorded (closed c))) .loop .s .next;
@@ -260,46 +258,31 @@ controls-now : (c : tie.Joined2 Inv-loop μ-loop) → Became (held-at (head (vis
       controls = controlsOf (held-at (head (visited (recorded (closed c)))));
     }) .after .controls)
 controls-now c =
-    ⊎-elim
-    (λ w. changed-yes (turn (visited (recorded (closed c)))) (recorded (closed c) .put-visit .last .1 .1 .0)
-    (recorded (closed c) .put-visit .ensures)
-    (c .before .changes .result) (held-now c)
-    (structOf (w .7 .result) (w .7 .last .1 .1 .1 .1 .1 .1 .1 .0) (w .7 .last .1 .1 .1 .1 .1 .1 .1 .1 .0)
-    (w .7 .last .1 .1 .1 .1 .1 .1 .1 .1 .1 .0) (w .7 .last .1 .1 .1 .1 .1 .1 .1 .1 .1 .1 .0)) (c .before .changes .ensures)
-    (w .0 .taken) (struct-same (w .16) (w .12) (w .13) (w .14) (w .15))
-    (w .7 .ensures .0 (head (visited (recorded (closed c))) .loop .inv .1) .became))
-    (λ w. changed-no (turn (visited (recorded (closed c)))) (recorded (closed c) .put-visit .last .1 .1 .0)
-    (recorded (closed c) .put-visit .ensures)
-    (c .before .changes .result) (held-now c) (c .before .changes .ensures) (w .0 .left)
-    (struct-same (w .5) (w .1) (w .2) (w .3) (w .4)))
-    (c .if2 .came)
+    changed (turn (visited (recorded (closed c)))) (recorded (closed c) .put-visit .last .1 .1 .0)
+    (recorded (closed c) .put-visit .ensures) (held-now c)
+    (c .unit-controls .ensures .0 (head (visited (recorded (closed c))) .loop .inv .1) .became)
 
-whole-now : (c : tie.Joined2 Inv-loop μ-loop) → Whole (c .if2 .starts) (c .if2 .ends) (c .if2 .phases) (c .if2 .positions)
-whole-now c =
-    ⊎-elim
-    (λ w. whole-same (w .12) (w .13) (w .14) (w .15)
-    (w .7 .ensures .0 (head (visited (recorded (closed c))) .loop .inv .1) .whole))
-    (λ w. whole-same (w .1) (w .2) (w .3) (w .4) (head (visited (recorded (closed c))) .loop .inv .1))
-    (c .if2 .came)
+whole-now : (c : tie.After-unit-controls Inv-loop μ-loop) → Whole (held-now c .starts) (held-now c .ends) (held-now c .phases) (held-now c .positions)
+whole-now c = c .unit-controls .ensures .0 (head (visited (recorded (closed c))) .loop .inv .1) .whole
 
 mode-is : (c : tie.After-mode-under Inv-loop μ-loop) → c .mode-under .result ≡ modeUnder
-    (Q (head (visited (recorded (closed (c .before .before)))))) (controlsOf (held-now (c .before .before)))
+    (Q (head (visited (recorded (closed (c .before .before .before .before .before .before)))))) (controlsOf (held-now (c .before .before .before .before .before .before)))
 mode-is c =
-    mode-law (Q (head (visited (recorded (closed (c .before .before)))))) (held-now (c .before .before))
-    ((head (visited (recorded (closed (c .before .before))))) .before .before .before .before .before .before .mode-numbered
+    mode-law (Q (head (visited (recorded (closed (c .before .before .before .before .before .before)))))) (held-now (c .before .before .before .before .before .before))
+    ((head (visited (recorded (closed (c .before .before .before .before .before .before))))) .before .before .before .before .before .before .mode-numbered
     .result) (c .mode-under .result)
-    ((head (visited (recorded (closed (c .before .before))))) .before .before .before .before .before .before .mode-numbered
+    ((head (visited (recorded (closed (c .before .before .before .before .before .before))))) .before .before .before .before .before .before .mode-numbered
     .ensures) (c .mode-under .ensures)
 
 end-is : (c : tie.After-end-of Inv-loop μ-loop)
-    → c .end-of .result ≡ endBy ((visited (recorded (closed (c .before .before .before)))) .before .verdict-at .result)
-    (closed (c .before .before .before) .close-unit .result .disruptive)
-    (modeUnder (Q (head (visited (recorded (closed (c .before .before .before))))))
-    (controlsOf (held-now (c .before .before .before))))
+    → c .end-of .result ≡ endBy ((visited (recorded (closed (c .before .before .before .before .before .before .before)))) .before .verdict-at .result)
+    (closed (c .before .before .before .before .before .before .before) .close-unit .result .disruptive)
+    (modeUnder (Q (head (visited (recorded (closed (c .before .before .before .before .before .before .before))))))
+    (controlsOf (held-now (c .before .before .before .before .before .before .before))))
 end-is c =
     c .end-of .ensures
-    ∙ ap (endBy ((visited (recorded (closed (c .before .before .before)))) .before .verdict-at .result)
-    (closed (c .before .before .before) .close-unit .result .disruptive)) (mode-is (c .before))
+    ∙ ap (endBy ((visited (recorded (closed (c .before .before .before .before .before .before .before)))) .before .verdict-at .result)
+    (closed (c .before .before .before .before .before .before .before) .close-unit .result .disruptive)) (mode-is (c .before))
 
 last-by : (c : tie.After-is-last Inv-loop μ-loop) (b : Bool) → c .is-last .result ≡ b
     → (not (isGoing (c .before .end-of .result)) || isOff
@@ -312,16 +295,12 @@ mode-numbered-requires : tie.Need-mode-numbered-requires Inv-loop μ-loop
 mode-numbered-requires c κs = tt
 
 loop-holds : tie.Need-loop-holds Inv-loop μ-loop
-loop-holds c = let a = c .before .before .before .before .before .before .before .before .before .before .before .before .before
-    .before .before .args in
+loop-holds c = let a = (c .before .before .before .before .before .before .before .before .before .before .before .before .before .before .before) .args in
     let t = fresh (a .held) (a .listed-before) (a .written-before) in (
       sofar-none (callOf (a .phase) (a .mode) (a .status) (now (a .rules)) (now (a .actions)) (now (a .markers)) (now (a .text))
           (now (a .outcomes)) t (now (a .ids)) (now (a .entries)) (now (a .journal)))
-          t (now (a .codes)) (now (a .ids)) (now (a .entries)) (now (a .journal)) refl
-          (c .before .before .before .before .before .before .before .before .before .before .before .before .before .before .before
-          .pre),
-      arrays-whole (c .before .before .before .before .before .before .before .before .before .before .before .before
-          .before .before .before),
+          t (now (a .codes)) (now (a .ids)) (now (a .entries)) (now (a .journal)) refl ((c .before .before .before .before .before .before .before .before .before .before .before .before .before .before .before) .pre),
+      arrays-whole (c .before .before .before .before .before .before .before .before .before .before .before .before .before .before .before),
     )
 
 verdict-at-requires : tie.Need-verdict-at-requires Inv-loop μ-loop
@@ -340,7 +319,7 @@ sub-put-visit : tie.Need-sub-put-visit Inv-loop μ-loop
 sub-put-visit c = journal-start (turn c)
 
 part-put-visit-start : tie.Need-part-put-visit-start Inv-loop μ-loop
-part-put-visit-start c = journal-start (turn (c))
+part-put-visit-start c = journal-start (turn c)
 
 part-put-visit-end : tie.Need-part-put-visit-end Inv-loop μ-loop
 part-put-visit-end c = le-refl _
@@ -357,44 +336,44 @@ mul-from c = omega (arith, unit-small (c .before .before .before .before))
 mul-to : tie.Need-mul-to Inv-loop μ-loop
 mul-to c = omega (arith, journal-small (visited (c .before .before .before .before)))
 
+mul-members : tie.Need-mul-members Inv-loop μ-loop
+mul-members c = omega (arith, unit-small (c .before .before .before .before))
+
+sub-members : tie.Need-sub-members Inv-loop μ-loop
+sub-members c = unit-from (c .before .before .before .before)
+
+part-members-start : tie.Need-part-members-start Inv-loop μ-loop
+part-members-start c = unit-from (c .before .before .before .before .before)
+
+part-members-end : tie.Need-part-members-end Inv-loop μ-loop
+part-members-end c = unit-to (c .before .before .before .before .before)
+
 mul-free : tie.Need-mul-free Inv-loop μ-loop
-mul-free c = omega (arith, entries-small (visited (c .before .before .before .before)))
+mul-free c = omega (arith, entries-small (visited (c .before .before .before .before .before .before)))
 
 mul-close-unit : tie.Need-mul-close-unit Inv-loop μ-loop
-mul-close-unit c = omega (arith, unit-small (c .before .before .before .before))
+mul-close-unit c = omega (arith, ids-small (visited (c .before .before .before .before .before .before)))
 
 sub-close-unit : tie.Need-sub-close-unit Inv-loop μ-loop
-sub-close-unit c = unit-from (c .before .before .before .before)
+sub-close-unit c = ids-start (turn (visited (c .before .before .before .before .before .before)))
 
 part-close-unit-start : tie.Need-part-close-unit-start Inv-loop μ-loop
-part-close-unit-start c = unit-from (c .before .before .before .before .before)
+part-close-unit-start c = ids-start (turn (visited (c .before .before .before .before .before .before)))
 
 part-close-unit-end : tie.Need-part-close-unit-end Inv-loop μ-loop
-part-close-unit-end c = unit-to (c .before .before .before .before .before)
+part-close-unit-end c = le-refl _
 
 mul-close-unit-2 : tie.Need-mul-close-unit-2 Inv-loop μ-loop
-mul-close-unit-2 c = omega (arith, ids-small (visited (c .before .before .before .before .before .before)))
+mul-close-unit-2 c = omega (arith, entries-small (visited (c .before .before .before .before .before .before .before)))
 
 sub-close-unit-2 : tie.Need-sub-close-unit-2 Inv-loop μ-loop
-sub-close-unit-2 c = ids-start (turn (visited (c .before .before .before .before .before .before)))
+sub-close-unit-2 c = entries-start (turn (visited (c .before .before .before .before .before .before .before)))
 
 part-close-unit-start-2 : tie.Need-part-close-unit-start-2 Inv-loop μ-loop
-part-close-unit-start-2 c = ids-start (turn (visited (c .before .before .before .before .before .before)))
+part-close-unit-start-2 c = entries-start (turn (visited (c .before .before .before .before .before .before .before)))
 
 part-close-unit-end-2 : tie.Need-part-close-unit-end-2 Inv-loop μ-loop
 part-close-unit-end-2 c = le-refl _
-
-mul-close-unit-3 : tie.Need-mul-close-unit-3 Inv-loop μ-loop
-mul-close-unit-3 c = omega (arith, entries-small (visited (c .before .before .before .before .before .before .before)))
-
-sub-close-unit-3 : tie.Need-sub-close-unit-3 Inv-loop μ-loop
-sub-close-unit-3 c = entries-start (turn (visited (c .before .before .before .before .before .before .before)))
-
-part-close-unit-start-3 : tie.Need-part-close-unit-start-3 Inv-loop μ-loop
-part-close-unit-start-3 c = entries-start (turn (visited (c .before .before .before .before .before .before .before)))
-
-part-close-unit-end-3 : tie.Need-part-close-unit-end-3 Inv-loop μ-loop
-part-close-unit-end-3 c = le-refl _
 
 close-unit-requires : tie.Need-close-unit-requires Inv-loop μ-loop
 close-unit-requires c κs = tt
@@ -405,59 +384,17 @@ add-listed c = omega (arith, listed-small (c .before .before .before .before .be
 add-written : tie.Need-add-written Inv-loop μ-loop
 add-written c = omega (arith, written-small (c .before .before .before .before .before .before))
 
-mul-changes : tie.Need-mul-changes Inv-loop μ-loop
-mul-changes c = omega (arith, unit-small (recorded (c .before .before .before .before .before .before)))
-
-sub-changes : tie.Need-sub-changes Inv-loop μ-loop
-sub-changes c = unit-from (recorded (c .before .before .before .before .before .before))
-
-part-changes-start : tie.Need-part-changes-start Inv-loop μ-loop
-part-changes-start c = unit-from (recorded (c .before .before .before .before .before .before .before))
-
-part-changes-end : tie.Need-part-changes-end Inv-loop μ-loop
-part-changes-end c = unit-to (recorded (c .before .before .before .before .before .before .before))
-
-changes-requires : tie.Need-changes-requires Inv-loop μ-loop
-changes-requires c κs = tt
-
-mul-unit-controls : tie.Need-mul-unit-controls Inv-loop μ-loop
-mul-unit-controls c = omega
-    (arith, unit-small (recorded (c .before .before .before .before .before .before .before .before .before .before)))
-
-sub-unit-controls : tie.Need-sub-unit-controls Inv-loop μ-loop
-sub-unit-controls c = unit-from (recorded (c .before .before .before .before .before .before .before .before .before .before))
-
-part-unit-controls-start : tie.Need-part-unit-controls-start Inv-loop μ-loop
-part-unit-controls-start c = unit-from
-    (recorded (c .before .before .before .before .before .before .before .before .before .before .before))
-
-part-unit-controls-end : tie.Need-part-unit-controls-end Inv-loop μ-loop
-part-unit-controls-end c = unit-to
-    (recorded (c .before .before .before .before .before .before .before .before .before .before .before))
-
 slice-aggregate-unit-controls : tie.Need-slice-aggregate-unit-controls Inv-loop μ-loop
-slice-aggregate-unit-controls c = sym
-    (head (visited (recorded
-    (c .before .before .before .before .before .before .before .before .before .before .before .before .before))) .loop .inv .1
-    .starts-256)
+slice-aggregate-unit-controls c = sym (head (visited (recorded (c .before .before .before .before .before .before .before))) .loop .inv .1 .starts-256)
 
 slice-aggregate-unit-controls-2 : tie.Need-slice-aggregate-unit-controls-2 Inv-loop μ-loop
-slice-aggregate-unit-controls-2 c = sym
-    (head (visited (recorded
-    (c .before .before .before .before .before .before .before .before .before .before .before .before .before .before))) .loop
-    .inv .1 .ends-256)
+slice-aggregate-unit-controls-2 c = sym (head (visited (recorded (c .before .before .before .before .before .before .before .before))) .loop .inv .1 .ends-256)
 
 slice-aggregate-unit-controls-3 : tie.Need-slice-aggregate-unit-controls-3 Inv-loop μ-loop
-slice-aggregate-unit-controls-3 c = sym
-    (head (visited (recorded
-    (c .before .before .before .before .before .before .before .before .before .before .before .before .before .before .before)))
-    .loop .inv .1 .phases-64)
+slice-aggregate-unit-controls-3 c = sym (head (visited (recorded (c .before .before .before .before .before .before .before .before .before))) .loop .inv .1 .phases-64)
 
 slice-aggregate-unit-controls-4 : tie.Need-slice-aggregate-unit-controls-4 Inv-loop μ-loop
-slice-aggregate-unit-controls-4 c = sym
-    (head (visited (recorded
-    (c .before .before .before .before .before .before .before .before .before .before .before .before .before .before .before
-    .before))) .loop .inv .1 .positions-64)
+slice-aggregate-unit-controls-4 c = sym (head (visited (recorded (c .before .before .before .before .before .before .before .before .before .before))) .loop .inv .1 .positions-64)
 
 unit-controls-requires : tie.Need-unit-controls-requires Inv-loop μ-loop
 unit-controls-requires c κs = tt
@@ -471,18 +408,6 @@ end-of-requires c κs = tt
 is-last-requires : tie.Need-is-last-requires Inv-loop μ-loop
 is-last-requires c κs = tt
 
-mul-stopped : tie.Need-mul-stopped Inv-loop μ-loop
-mul-stopped c = omega (arith, unit-small (recorded (closed (settled (c .before)))))
-
-sub-stopped : tie.Need-sub-stopped Inv-loop μ-loop
-sub-stopped c = unit-from (recorded (closed (settled (c .before))))
-
-part-stopped-start : tie.Need-part-stopped-start Inv-loop μ-loop
-part-stopped-start c = unit-from (recorded (closed (settled (c .before .before))))
-
-part-stopped-end : tie.Need-part-stopped-end Inv-loop μ-loop
-part-stopped-end c = unit-to (recorded (closed (settled (c .before .before))))
-
 stopped-requires : tie.Need-stopped-requires Inv-loop μ-loop
 stopped-requires c κs = tt
 
@@ -490,104 +415,63 @@ ended-requires : tie.Need-ended-requires Inv-loop μ-loop
 ended-requires c κs = tt
 
 same-length : tie.Need-same-length Inv-loop μ-loop
-same-length c = ids-kept (turn (visited (recorded (closed (settled (c .before .before .before .before .before))))))
-    (recorded (closed (settled (c .before .before .before .before .before))) .put-visit .last .1 .1 .0)
-    (recorded (closed (settled (c .before .before .before .before .before))) .put-visit .ensures)
-    (closed (settled (c .before .before .before .before .before)) .close-unit .result)
-    (closed (settled (c .before .before .before .before .before)) .close-unit .last .1 .1 .1 .1 .1 .1 .1 .1 .1 .0)
-    (closed (settled (c .before .before .before .before .before)) .close-unit .last .1 .1 .1 .1 .1 .1 .1 .1 .1 .1 .0)
-    (closed (settled (c .before .before .before .before .before)) .close-unit .ensures
-    (restOf (Q (head (visited (recorded (closed (settled (c .before .before .before .before .before)))))))))
+same-length c = ids-kept (turn (visited (recorded (closed (c .before .before .before .before .before .before .before .before .before .before .before))))) (recorded (closed (c .before .before .before .before .before .before .before .before .before .before .before)) .put-visit .last .1 .1 .0) (recorded (closed (c .before .before .before .before .before .before .before .before .before .before .before)) .put-visit .ensures)
+    ((closed (c .before .before .before .before .before .before .before .before .before .before .before)) .close-unit .result) ((closed (c .before .before .before .before .before .before .before .before .before .before .before)) .close-unit .last .1 .1 .1 .1 .1 .1 .1 .1 .1 .0) ((closed (c .before .before .before .before .before .before .before .before .before .before .before)) .close-unit .last .1 .1 .1 .1 .1 .1 .1 .1 .1 .1 .0)
+    ((closed (c .before .before .before .before .before .before .before .before .before .before .before)) .close-unit .ensures (restOf (Q (head (visited (recorded (closed (c .before .before .before .before .before .before .before .before .before .before .before))))))))
 
 same-length-2 : tie.Need-same-length-2 Inv-loop μ-loop
-same-length-2 c = entries-kept (turn (visited (recorded (closed (settled (c .before .before .before .before .before))))))
-    (recorded (closed (settled (c .before .before .before .before .before))) .put-visit .last .1 .1 .0)
-    (recorded (closed (settled (c .before .before .before .before .before))) .put-visit .ensures)
-    (closed (settled (c .before .before .before .before .before)) .close-unit .result)
-    (closed (settled (c .before .before .before .before .before)) .close-unit .last .1 .1 .1 .1 .1 .1 .1 .1 .1 .0)
-    (closed (settled (c .before .before .before .before .before)) .close-unit .last .1 .1 .1 .1 .1 .1 .1 .1 .1 .1 .0)
-    (closed (settled (c .before .before .before .before .before)) .close-unit .ensures
-    (restOf (Q (head (visited (recorded (closed (settled (c .before .before .before .before .before)))))))))
+same-length-2 c = entries-kept (turn (visited (recorded (closed (c .before .before .before .before .before .before .before .before .before .before .before))))) (recorded (closed (c .before .before .before .before .before .before .before .before .before .before .before)) .put-visit .last .1 .1 .0) (recorded (closed (c .before .before .before .before .before .before .before .before .before .before .before)) .put-visit .ensures)
+    ((closed (c .before .before .before .before .before .before .before .before .before .before .before)) .close-unit .result) ((closed (c .before .before .before .before .before .before .before .before .before .before .before)) .close-unit .last .1 .1 .1 .1 .1 .1 .1 .1 .1 .0) ((closed (c .before .before .before .before .before .before .before .before .before .before .before)) .close-unit .last .1 .1 .1 .1 .1 .1 .1 .1 .1 .1 .0)
+    ((closed (c .before .before .before .before .before .before .before .before .before .before .before)) .close-unit .ensures (restOf (Q (head (visited (recorded (closed (c .before .before .before .before .before .before .before .before .before .before .before))))))))
 
 same-length-3 : tie.Need-same-length-3 Inv-loop μ-loop
-same-length-3 c = journal-kept (turn (visited (recorded (closed (settled (c .before .before .before .before .before))))))
-    (recorded (closed (settled (c .before .before .before .before .before))) .put-visit .last .1 .1 .0)
-    (recorded (closed (settled (c .before .before .before .before .before))) .put-visit .ensures)
-    (closed (settled (c .before .before .before .before .before)) .close-unit .result)
-    (closed (settled (c .before .before .before .before .before)) .close-unit .last .1 .1 .1 .1 .1 .1 .1 .1 .1 .0)
-    (closed (settled (c .before .before .before .before .before)) .close-unit .last .1 .1 .1 .1 .1 .1 .1 .1 .1 .1 .0)
-    (closed (settled (c .before .before .before .before .before)) .close-unit .ensures
-    (restOf (Q (head (visited (recorded (closed (settled (c .before .before .before .before .before)))))))))
+same-length-3 c = journal-kept (turn (visited (recorded (closed (c .before .before .before .before .before .before .before .before .before .before .before))))) (recorded (closed (c .before .before .before .before .before .before .before .before .before .before .before)) .put-visit .last .1 .1 .0) (recorded (closed (c .before .before .before .before .before .before .before .before .before .before .before)) .put-visit .ensures)
+    ((closed (c .before .before .before .before .before .before .before .before .before .before .before)) .close-unit .result) ((closed (c .before .before .before .before .before .before .before .before .before .before .before)) .close-unit .last .1 .1 .1 .1 .1 .1 .1 .1 .1 .0) ((closed (c .before .before .before .before .before .before .before .before .before .before .before)) .close-unit .last .1 .1 .1 .1 .1 .1 .1 .1 .1 .1 .0)
+    ((closed (c .before .before .before .before .before .before .before .before .before .before .before)) .close-unit .ensures (restOf (Q (head (visited (recorded (closed (c .before .before .before .before .before .before .before .before .before .before .before))))))))
 
 returns : tie.Need-returns Inv-loop μ-loop
 returns c = rw (c .ended .ensures)
-    (sofar-last (turn (visited (recorded (closed (settled (c .before .before .before .before .before))))))
-    (recorded (closed (settled (c .before .before .before .before .before))) .put-visit .last .1 .1 .0)
-    (recorded (closed (settled (c .before .before .before .before .before))) .put-visit .ensures)
-    (closed (settled (c .before .before .before .before .before)) .close-unit .result)
-    (closed (settled (c .before .before .before .before .before)) .close-unit .last .1 .1 .1 .1 .1 .1 .1 .1 .1 .0)
-    (closed (settled (c .before .before .before .before .before)) .close-unit .last .1 .1 .1 .1 .1 .1 .1 .1 .1 .1 .0)
-    (closed (settled (c .before .before .before .before .before)) .close-unit .ensures
-    (restOf (Q (head (visited (recorded (closed (settled (c .before .before .before .before .before)))))))))
-    (held-now (settled (c .before .before .before .before .before)))
-    (controls-now (settled (c .before .before .before .before .before)))
-    (c .before .before .before .before .before .before .end-of .result)
-    (end-is (c .before .before .before .before .before .before))
-    (c .before .stopped .result)
-    (c .before .stopped .ensures
-    (now (entered (head (visited (recorded (closed (settled (c .before .before .before .before .before)))))) .args .markers))
-    (now (entered (head (visited (recorded (closed (settled (c .before .before .before .before .before)))))) .args .text))
-    (now (entered (head (visited (recorded (closed (settled (c .before .before .before .before .before)))))) .args .outcomes))
-    (restOf (Q (head (visited (recorded (closed (settled (c .before .before .before .before .before)))))))) refl)
-    (last-by (c .before .before .before .before .before) true (c .before .before .before .before .if3 .taken)))
+    (sofar-last (turn (visited (recorded (closed (c .before .before .before .before .before .before .before .before .before .before .before))))) (recorded (closed (c .before .before .before .before .before .before .before .before .before .before .before)) .put-visit .last .1 .1 .0) (recorded (closed (c .before .before .before .before .before .before .before .before .before .before .before)) .put-visit .ensures)
+    ((closed (c .before .before .before .before .before .before .before .before .before .before .before)) .close-unit .result) ((closed (c .before .before .before .before .before .before .before .before .before .before .before)) .close-unit .last .1 .1 .1 .1 .1 .1 .1 .1 .1 .0) ((closed (c .before .before .before .before .before .before .before .before .before .before .before)) .close-unit .last .1 .1 .1 .1 .1 .1 .1 .1 .1 .1 .0)
+    ((closed (c .before .before .before .before .before .before .before .before .before .before .before)) .close-unit .ensures (restOf (Q (head (visited (recorded (closed (c .before .before .before .before .before .before .before .before .before .before .before))))))))
+    (held-now (c .before .before .before .before .before .before .before .before .before .before .before)) (controls-now (c .before .before .before .before .before .before .before .before .before .before .before))
+    ((c .before .before .before .before) .end-of .result) (end-is (c .before .before .before .before))
+    ((c .before) .stopped .result)
+    ((c .before) .stopped .ensures (now (entered (head (visited (recorded (closed (c .before .before .before .before .before .before .before .before .before .before .before))))) .args .markers)) (now (entered (head (visited (recorded (closed (c .before .before .before .before .before .before .before .before .before .before .before))))) .args .text)) (now (entered (head (visited (recorded (closed (c .before .before .before .before .before .before .before .before .before .before .before))))) .args .outcomes)) (restOf (Q (head (visited (recorded (closed (c .before .before .before .before .before .before .before .before .before .before .before))))))) refl)
+    (last-by (c .before .before .before) true ((c .before .before) .if2 .taken)))
 
 loop-less : tie.Need-loop-less Inv-loop μ-loop
-loop-less c = omega (
-  arith,
-  goes-on (closed (settled (c .before))),
-  (visited (recorded (closed (settled (c .before))))) .before
-      .before .before .before .if1 .taken,
-)
+loop-less c = omega (arith, goes-on (closed (c .before .before .before .before .before .before .before .before .before)), (visited (recorded (closed (c .before .before .before .before .before .before .before .before .before)))) .before .before .before .before .if1 .taken)
 
 loop-again : tie.Need-loop-again Inv-loop μ-loop
 loop-again c = (
-  sofar-more (turn (visited (recorded (closed (settled (c .before))))))
-      (recorded (closed (settled (c .before))) .put-visit .last .1 .1 .0)
-      (recorded (closed (settled (c .before))) .put-visit .ensures)
-      (closed (settled (c .before)) .close-unit .result)
-      (closed (settled (c .before)) .close-unit .last .1 .1 .1 .1 .1 .1 .1 .1 .1 .0)
-      (closed (settled (c .before)) .close-unit .last .1 .1 .1 .1 .1 .1 .1 .1 .1 .1 .0)
-      (closed (settled (c .before)) .close-unit .ensures (restOf (Q (head (visited (recorded (closed (settled (c .before)))))))))
-      (held-now (settled (c .before))) (controls-now (settled (c .before))) (c .before .before .end-of .result)
-      (end-is (c .before .before))
-      (last-by (c .before) false (c .if3 .left)),
-  whole-now (settled (c .before)),
+  sofar-more (turn (visited (recorded (closed (c .before .before .before .before .before .before .before .before .before))))) (recorded (closed (c .before .before .before .before .before .before .before .before .before)) .put-visit .last .1 .1 .0) (recorded (closed (c .before .before .before .before .before .before .before .before .before)) .put-visit .ensures)
+      ((closed (c .before .before .before .before .before .before .before .before .before)) .close-unit .result) ((closed (c .before .before .before .before .before .before .before .before .before)) .close-unit .last .1 .1 .1 .1 .1 .1 .1 .1 .1 .0) ((closed (c .before .before .before .before .before .before .before .before .before)) .close-unit .last .1 .1 .1 .1 .1 .1 .1 .1 .1 .1 .0)
+      ((closed (c .before .before .before .before .before .before .before .before .before)) .close-unit .ensures (restOf (Q (head (visited (recorded (closed (c .before .before .before .before .before .before .before .before .before))))))))
+      (held-now (c .before .before .before .before .before .before .before .before .before)) (controls-now (c .before .before .before .before .before .before .before .before .before)) ((c .before .before) .end-of .result) (end-is (c .before .before))
+      (last-by (c .before) false (c .if2 .left)),
+  whole-now (c .before .before .before .before .before .before .before .before .before),
 )
 
 ended-requires-2 : tie.Need-ended-requires-2 Inv-loop μ-loop
 ended-requires-2 c κs = tt
 
 same-length-4 : tie.Need-same-length-4 Inv-loop μ-loop
-same-length-4 c = ids-as-lent (c .before .before .before .before)
+same-length-4 c = ids-as-lent (c .before .before .before)
 
 same-length-5 : tie.Need-same-length-5 Inv-loop μ-loop
-same-length-5 c = entries-as-lent (c .before .before .before .before)
+same-length-5 c = entries-as-lent (c .before .before .before)
 
 same-length-6 : tie.Need-same-length-6 Inv-loop μ-loop
-same-length-6 c = journal-as-lent (c .before .before .before .before)
+same-length-6 c = journal-as-lent (c .before .before .before)
 
 returns-2 : tie.Need-returns-2 Inv-loop μ-loop
 returns-2 c = rw (c .ended2 .ensures)
-    (sofar-end (Q (c .before .before .before .before)) (T (c .before .before .before .before))
-    (now (entered (c .before .before .before .before) .args .ids))
-    (now (entered (c .before .before .before .before) .args .entries))
-    (now (entered (c .before .before .before .before) .args .journal)) (c .before .before .before .before .loop .ids)
-    (c .before .before .before .before .loop .entries) (c .before .before .before .before .loop .journal)
-    (held-at (c .before .before .before .before)) (c .before .before .before .before .loop .s)
-    (c .before .before .before .before .loop .visits)
-    (c .before .before .before .before .loop .listed) (c .before .before .before .before .loop .written)
-    (c .before .before .before .before .loop .inv .0)
-    (omega (arith, c .before .before .if1 .left, length-rules (now (entered (c .before .before .before .before) .args .rules)))))
+    (sofar-end (Q (c .before .before .before)) (T (c .before .before .before)) (now (entered (c .before .before .before) .args .ids)) (now (entered (c .before .before .before) .args .entries))
+    (now (entered (c .before .before .before) .args .journal)) ((c .before .before .before) .loop .ids) ((c .before .before .before) .loop .entries) ((c .before .before .before) .loop .journal)
+    (held-at (c .before .before .before)) ((c .before .before .before) .loop .s) ((c .before .before .before) .loop .visits) ((c .before .before .before) .loop .listed) ((c .before .before .before) .loop .written)
+    ((c .before .before .before) .loop .inv .0)
+    (omega (arith, (c .before) .if1 .left, length-rules (now (entered (c .before .before .before) .args .rules)))))
 
 pub walk-rules-spec : {M : Type 1} → statement M
 walk-rules-spec =
@@ -608,6 +492,10 @@ walk-rules-spec =
     add-visits
     mul-from
     mul-to
+    mul-members
+    sub-members
+    part-members-start
+    part-members-end
     mul-free
     mul-close-unit
     sub-close-unit
@@ -617,22 +505,9 @@ walk-rules-spec =
     sub-close-unit-2
     part-close-unit-start-2
     part-close-unit-end-2
-    mul-close-unit-3
-    sub-close-unit-3
-    part-close-unit-start-3
-    part-close-unit-end-3
     close-unit-requires
     add-listed
     add-written
-    mul-changes
-    sub-changes
-    part-changes-start
-    part-changes-end
-    changes-requires
-    mul-unit-controls
-    sub-unit-controls
-    part-unit-controls-start
-    part-unit-controls-end
     slice-aggregate-unit-controls
     slice-aggregate-unit-controls-2
     slice-aggregate-unit-controls-3
@@ -641,10 +516,6 @@ walk-rules-spec =
     mode-under-requires
     end-of-requires
     is-last-requires
-    mul-stopped
-    sub-stopped
-    part-stopped-start
-    part-stopped-end
     stopped-requires
     ended-requires
     same-length
