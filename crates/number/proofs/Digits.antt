@@ -51,7 +51,7 @@ module _ (v : ℕ) (s : List ℕ) (i : ℕ) (h : i < length s) where
     unfolding digitsFrom allDigits valueFrom
     digits-more = rw (drop-cons s i 0 h, le-leb 48 (getD s i 0) a, le-leb (getD s i 0) 57 z)
 
-    pub digits-large : (18446744073709551615 - (getD s i 0 - 48)) / 10 < v → digitsFrom v (drop i s) ≡ Number.Bad
+    pub digits-large : 1844674407370955161 - (getD s i 0 - 48 + 10) / 16 < v → digitsFrom v (drop i s) ≡ Number.Bad
     digits-large l = digits-more ∙ digits-over (drop (suc i) s) (v * 10 + (getD s i 0 - 48)) (omega arith)
 
 pub digits-end : (v : ℕ) (s : List ℕ) (i : ℕ) → length s ≤ i → v ≤ 18446744073709551615 → digitsFrom v (drop i s) ≡ Number.Value v

@@ -21,8 +21,8 @@ fn read_digits(s: &[u8]) -> Number
             return Number::Bad;
         }
         let d = (b - 48) as u64;
-        // v * 10 + d would pass the largest number
-        if (18446744073709551615 - d) / 10 < v {
+        // v * 10 + d would pass the largest number; its last digit is 5, and (d + 10) / 16 is 1 where d is larger
+        if 1844674407370955161 - (d + 10) / 16 < v {
             return Number::Bad;
         }
         v = v * 10 + d;

@@ -1,13 +1,15 @@
 -- Laws of the count of a list's ranges. Assumes nothing.
-use Prim.Native.Nat.{ℕ, _+_, _-_, _≤_, _<_}
+use Prim.Native.Nat.{ℕ, _+_, _-_, _*_, _≤_, _<_}
 use mathlib.Core.Path.{_≡_, refl, ap, _∙_}
-use mathlib.Core.Bool.{Bool, true, false, cond, _||_}
+use mathlib.Core.Bool.{Bool, true, false, cond, _||_, _&&_}
 use mathlib.Core.List.{List, [], _∷_, _++_}
 use native.Mathlib.Omega.{arith}
-use lib.Dec.{eqb}
-use lib.ListN.{length, take, drop, length-append}
+use borrow.Author.Tests.{le-leb, lt-leb, leb-true, ne-eqb, eqb-true}
+use lib.Dec.{eqb, leb}
+use lib.ListN.{length, take, drop, getD, length-append}
+use Rattle.reading.specs.declared.Number.{Number}
 use Rattle.reading.specs.declared.IdPart.{IdPart}
-use Rattle.reading.specs.Text.{trimStart, trimEnd, trim, indexOf, idPart, isBad, rangeIn, idParts, anyBad, rangesIn}
+use Rattle.reading.specs.Text.{isBlank, isDigit, trimmedPart, trimStart, before, trimEnd, trim, allDigits, valueFrom, digits, withoutPlus, numberOf, indexOf, oneId, idPart, isBad, rangeIn, idParts, anyBad, rangesIn}
 use Rattle.reading.specs.Directive.{removalValue, unsupported, ruleRemoveById}
 use Rattle.ranges.specs.declared.RangeCount.{RangeCount}
 use Rattle.ranges.specs.Ranges.{countOf, countIn, kindOf}
@@ -92,3 +94,37 @@ kind-counts (IdPart.Range r) m e h = (e, omega (arith, e))
 pub empty-blank : (k : ℕ) (s : List ℕ) → k ≡ 0 → idPart (take k s) ≡ IdPart.Blank
 unfolding idPart trim trimStart trimEnd
 empty-blank k s e = rw e refl
+
+-- one digit is a number
+not-blank : (x : ℕ) → 48 ≤ x → isBlank x ≡ false
+not-blank x l = rw (le-leb 9 x (omega arith), lt-leb x 13 (omega arith), ne-eqb x 32 (omega arith))
+
+trim-one : (x : ℕ) → isBlank x ≡ false → trim (x ∷ []) ≡ x ∷ []
+unfolding trim trimStart trimEnd before
+trim-one x e = ap (λ (t : Bool). trimEnd (cond t [] (x ∷ []))) e ∙ ap (λ (t : Bool). cond t [] (x ∷ [])) e
+
+value-one : (x : ℕ) → 48 ≤ x → x ≤ 57 → numberOf (x ∷ []) ≡ Number.Value (0 * 10 + (x - 48))
+unfolding numberOf withoutPlus digits allDigits valueFrom
+value-one x l u =
+    ap (λ (t : Bool). digits (cond t [] (x ∷ []))) (ne-eqb x 43 (omega arith))
+    ∙ rw (le-leb 48 x l, le-leb x 57 u, le-leb (0 * 10 + (x - 48)) 18446744073709551615 (omega arith))
+
+digit-part : (x : ℕ) → 48 ≤ x → x ≤ 57 → kindOf (idPart (x ∷ [])) ≡ 1
+unfolding idPart indexOf oneId
+digit-part x l u =
+    ap (λ (p : List ℕ). kindOf (trimmedPart p)) (trim-one x (not-blank x l))
+    ∙ rw (ne-eqb x 45 (omega arith), value-one x l u)
+
+and-left : (a b : Bool) → (a && b) ≡ true → a ≡ true
+and-left true b e = refl
+and-left false b e = e
+
+and-right : (a b : Bool) → (a && b) ≡ true → b ≡ true
+and-right true b e = e
+and-right false b e = absurd (let z : _≡_ {A = ℕ} 0 1 = ap (λ (x : Bool). cond x 1 0) e in omega (arith, z))
+
+pub one-digit : (k : ℕ) (s : List ℕ) → (eqb k 1 && isDigit (getD s 0 0)) ≡ true → k ≤ length s → kindOf (idPart (take k s)) ≡ 1
+one-digit k [] e h = absurd (omega (arith, eqb-true k 1 (and-left (eqb k 1) _ e)))
+one-digit k (b ∷ bs) e h =
+    let d = and-right (eqb k 1) _ e in
+    rw (eqb-true k 1 (and-left (eqb k 1) _ e)) (digit-part b (leb-true 48 b (and-left (leb 48 b) _ d)) (leb-true b 57 (and-right (leb 48 b) _ d)))

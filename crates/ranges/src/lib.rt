@@ -6,8 +6,10 @@ use reading::Number;
 use reading::RuleIdRange;
 ghost use mathlib.Core.Path.{_≡_};
 ghost use Prim.Native.Nat.{_<_, _≤_, suc};
-ghost use lib.ListN.{length, take, drop};
-ghost use Rattle.reading.specs.Text.{trim, numberOf, idsFrom, idPart};
+ghost use mathlib.Core.Bool.{_&&_};
+ghost use lib.Dec.{eqb};
+ghost use lib.ListN.{length, take, drop, getD};
+ghost use Rattle.reading.specs.Text.{isDigit, trim, numberOf, idsFrom, idPart};
 ghost use Rattle.reading.specs.Directive.{removalValue};
 ghost use Rattle.ranges.specs.Ranges.{countOf, countIn, kindOf, Put, Written};
 
@@ -87,6 +89,21 @@ fn part_kind(p: &[u8]) -> u64
     1
 }
 
+// Whether the part before a comma is one digit, the shortest number and so the one that a list can hold most often.
+fn is_digit_before(rest: &[u8], comma: usize) -> bool
+    requires { ⌜ comma ≤ length (now rest) ⌝ }
+    ensures { λ r. ⌜ r ≡ (eqb comma 1 && isDigit (getD (now (rest .entry)) 0 0)) ⌝ }
+{
+    if comma != 1 {
+        return false;
+    }
+    let b = rest[0];
+    if b < 48 {
+        return false;
+    }
+    b <= 57
+}
+
 // What the part before a comma counts as; an empty one is blank.
 fn kind_before(rest: &[u8], comma: usize) -> u64
     requires { ⌜ comma ≤ length (now rest) ⌝ }
@@ -94,6 +111,9 @@ fn kind_before(rest: &[u8], comma: usize) -> u64
 {
     if comma == 0 {
         return 0;
+    }
+    if is_digit_before(rest, comma) {
+        return 1;
     }
     part_kind(&rest[..comma])
 }

@@ -39,6 +39,9 @@ returns-3 c =
 cast-d : tie.Need-cast-d Inv-loop μ-loop
 cast-d c = omega arith
 
+add-if4 : tie.Need-add-if4 Inv-loop μ-loop
+add-if4 c = omega arith
+
 sub-if4 : tie.Need-sub-if4 Inv-loop μ-loop
 sub-if4 c = omega arith
 
@@ -85,6 +88,7 @@ read-digits-spec =
     returns-2
     returns-3
     cast-d
+    add-if4
     sub-if4
     returns-4
     mul-v
