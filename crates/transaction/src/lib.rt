@@ -204,7 +204,7 @@ fn walk_rules(
         let members = &journal[from..to];
         let free = 4 * written;
         let u = unit::close_unit(
-            v.closes,
+            v.closes, // while a chain is open, nothing is written
             after.next,
             phase,
             members,
@@ -219,7 +219,7 @@ fn walk_rules(
         listed += u.ids;
         written += u.entries;
         h = coded::unit_controls(
-            v.closes,
+            v.closes, // while a chain is open, its links' controls wait
             h,
             members,
             rules,
