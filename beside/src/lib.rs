@@ -1,0 +1,9 @@
+//! What crates/bench exports, for the programs that time the phase call.
+
+#![deny(unsafe_code)]
+
+#[cfg(feature = "phase")]
+mod exported;
+
+#[cfg(feature = "phase")]
+pub use exported::{time_phase, Lent, Sums, Written};
