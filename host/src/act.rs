@@ -6,27 +6,47 @@ use crate::records::Action;
 /// left out of a rule set, or are [`Act::Other`].
 #[derive(Debug, Clone, Copy, PartialEq, Eq, Hash)]
 pub enum Act<'a> {
+    /// A kind without an effect in the phase loop.
     Other,
+    /// Stops with 403.
     Deny,
+    /// Stops with the status that the call is given.
     Block,
+    /// Neither stops nor allows.
     Pass,
+    /// Allows the request, in any mode.
     Allow,
+    /// Stops with 302; the address.
     Redirect(&'a [u8]),
+    /// Stops with 444 and drops the connection.
     Drop,
+    /// No effect of its own: the link flag of the rule counts.
     Chain,
+    /// Passes so many rules, at most 4294967295.
     Skip(u64),
+    /// Jumps behind the marker of this name.
     SkipAfter(&'a [u8]),
+    /// No effect, but it is a flow action: as the last one it takes the place of a skip.
     MultiMatch,
+    /// The id in the metadata.
     Id(u64),
+    /// The message, which is also the log of an intervention.
     Msg(&'a [u8]),
+    /// More for the log.
     LogData(&'a [u8]),
+    /// The revision.
     Rev(&'a [u8]),
+    /// The version.
     Ver(&'a [u8]),
+    /// At most 255.
     Severity(u64),
+    /// At most 255.
     Maturity(u64),
+    /// At most 255.
     Accuracy(u64),
     /// A directive and its value.
     Ctl(&'a [u8], &'a [u8]),
+    /// No effect; at most 65535.
     Status(u64),
 }
 

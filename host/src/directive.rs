@@ -7,12 +7,15 @@ use crate::Refusal;
 /// What a ctl directive says.
 #[derive(Debug, Clone, PartialEq, Eq)]
 pub enum Directive<'a> {
+    /// The mode from here on.
     RuleEngine(Mode),
     /// The removed ids as ranges; both ends are removed.
     RuleRemoveById(Vec<(u64, u64)>),
+    /// A target that is removed from a rule.
     RuleRemoveTargetById(Target<'a>),
     /// Whether the request body is read.
     RequestBodyAccess(bool),
+    /// The processor of the request body.
     RequestBodyProcessor(BodyProcessor),
     /// Everything else; it changes nothing.
     Unsupported,
@@ -23,7 +26,9 @@ pub enum Directive<'a> {
 /// The host drops a target whose variable it does not know; here every one is kept.
 #[derive(Debug, Clone, Copy, PartialEq, Eq, Hash)]
 pub struct Target<'a> {
+    /// The text for the rule's id, trimmed.
     pub rule_id: &'a [u8],
+    /// The text for the variable, trimmed.
     pub target: &'a [u8],
 }
 

@@ -21,19 +21,28 @@ pub struct Intervention<T = Place> {
     pub starter: Option<u64>,
     /// The phase in which it came about.
     pub phase: u64,
+    /// The metadata of the rule that started the unit.
     pub metadata: Metadata<T>,
 }
 
 /// The metadata of the rule that started the unit: the last action of each kind.
 #[derive(Debug, Clone, Copy, PartialEq, Eq)]
 pub struct Metadata<T = Place> {
+    /// The number of its id action.
     pub id: Option<u64>,
+    /// Its msg.
     pub msg: Option<T>,
+    /// Its logdata.
     pub logdata: Option<T>,
+    /// Its rev.
     pub rev: Option<T>,
+    /// Its ver.
     pub ver: Option<T>,
+    /// Its severity.
     pub severity: Option<u64>,
+    /// Its maturity.
     pub maturity: Option<u64>,
+    /// Its accuracy.
     pub accuracy: Option<u64>,
 }
 

@@ -13,14 +13,19 @@ pub(crate) const MOST_BYTES: usize = 65_536;
 /// A limit of 01 that concerns a rule set by itself.
 #[derive(Debug, Clone, Copy, PartialEq, Eq, Hash)]
 pub enum Limit {
+    /// More than 512 rules.
     Rules,
+    /// More than 4,096 actions.
     Actions,
+    /// More than 256 markers.
     Markers,
+    /// More than 65,536 bytes of text.
     Text,
     /// A rule's flag for its id or its link is not 0 or 1.
     Flag,
     /// A rule's actions are not all in the action list.
     ActionsOutside,
+    /// An action of an unknown kind.
     Kind,
     /// An action's number is above this one.
     Number(u64),
@@ -28,8 +33,11 @@ pub enum Limit {
     PartOutside,
     /// A marker's position is above the number of rules.
     Position,
+    /// A byte of 80 (hexadecimal) or more.
     HighByte,
+    /// More than 256 removed ranges in all rules together.
     Ranges,
+    /// More than 64 removed targets in all rules together.
     Targets,
 }
 
@@ -70,15 +78,18 @@ impl fmt::Display for Limit {
 /// Where a rule set breaks a limit. All are counted from 0.
 #[derive(Debug, Clone, Copy, PartialEq, Eq, Hash)]
 pub enum Where {
+    /// A rule's index.
     Rule(usize),
     /// An action by its position in the whole list, and the first rule that has it.
     Action {
+        /// In the whole list.
         position: usize,
         /// The rule's index, and which of its actions this is.
         rule: Option<(usize, usize)>,
         /// The name of its kind, where it has one.
         name: Option<&'static str>,
     },
+    /// A marker of the list.
     Marker(usize),
     /// A byte of the text.
     Byte(usize),
@@ -109,7 +120,9 @@ impl fmt::Display for Where {
 /// A limit that a rule set breaks, and the first place where it does.
 #[derive(Debug, Clone, Copy, PartialEq, Eq, Hash)]
 pub struct Broken {
+    /// What is broken.
     pub limit: Limit,
+    /// Where.
     pub at: Where,
 }
 

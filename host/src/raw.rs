@@ -17,21 +17,32 @@ pub use crate::records::ReadRecord;
 /// [`Action`](crate::Action). Numbers behind the last whole record are not looked at.
 #[derive(Debug, Clone, Copy, Default)]
 pub struct Lent<'a> {
+    /// The number of the phase.
     pub phase: u64,
+    /// The number of the rule set's mode: 0 On, 1 DetectionOnly, 2 Off.
     pub mode: u64,
+    /// The status that block stands for.
     pub status: u64,
+    /// The rules, 5 numbers each.
     pub rules: &'a [u64],
+    /// The actions, 6 numbers each.
     pub actions: &'a [u64],
+    /// The markers.
     pub markers: &'a [Marker],
+    /// The text that actions and markers point into.
     pub text: &'a [u8],
+    /// The outcome of each rule: 0 missed, 1 matched without a variable, 2 with one, 3 rule error.
     pub outcomes: &'a [u8],
 }
 
 /// What a phase call writes: 4 numbers a data entry and 2 a journal entry. What is not written stays as it was.
 #[derive(Debug, Default)]
 pub struct Lists<'a> {
+    /// The matched ids.
     pub ids: &'a mut [u64],
+    /// The data entries, 4 numbers each.
     pub entries: &'a mut [u64],
+    /// The journal, 2 numbers each.
     pub journal: &'a mut [u64],
 }
 

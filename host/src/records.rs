@@ -11,7 +11,9 @@ pub const MOST_TARGETS: usize = 64;
 #[repr(C)]
 #[derive(Debug, Clone, Copy, Default, PartialEq, Eq, Hash)]
 pub struct Part {
+    /// Its first byte.
     pub start: u64,
+    /// How many bytes it has.
     pub len: u64,
 }
 
@@ -34,10 +36,15 @@ impl Part {
 #[repr(C)]
 #[derive(Debug, Clone, Copy, Default, PartialEq, Eq)]
 pub struct Rule {
+    /// 1 where it has an id, else 0.
     pub present: u64,
+    /// The id.
     pub id: u64,
+    /// 1 where it is a link, else 0.
     pub link: u64,
+    /// Its first action.
     pub first: u64,
+    /// How many actions it has.
     pub count: u64,
 }
 
@@ -45,9 +52,13 @@ pub struct Rule {
 #[repr(C)]
 #[derive(Debug, Clone, Copy, Default, PartialEq, Eq)]
 pub struct Action {
+    /// 01's number of the kind.
     pub kind: u64,
+    /// The number of a kind that has one.
     pub number: u64,
+    /// The text of a kind that has one, and the directive of a ctl.
     pub text: Part,
+    /// The value of a ctl.
     pub value: Part,
 }
 
@@ -55,7 +66,9 @@ pub struct Action {
 #[repr(C)]
 #[derive(Debug, Clone, Copy, Default, PartialEq, Eq)]
 pub struct Marker {
+    /// Where its name stands.
     pub name: Part,
+    /// The number of the phase's rules before it.
     pub position: u64,
 }
 
@@ -63,9 +76,13 @@ pub struct Marker {
 #[repr(C)]
 #[derive(Debug, Clone, Copy, Default, PartialEq, Eq)]
 pub struct DataRecord {
+    /// 1 where it has an id, else 0.
     pub present: u64,
+    /// The id, or 0.
     pub id: u64,
+    /// The phase.
     pub phase: u64,
+    /// The rule's index.
     pub index: u64,
 }
 
@@ -73,7 +90,9 @@ pub struct DataRecord {
 #[repr(C)]
 #[derive(Debug, Clone, Copy, Default, PartialEq, Eq)]
 pub struct JournalRecord {
+    /// The rule's index.
     pub index: u64,
+    /// 0 missed, 1 matched, 2 removed, 3 error.
     pub verdict: u64,
 }
 
@@ -81,7 +100,9 @@ pub struct JournalRecord {
 #[repr(C)]
 #[derive(Debug, Clone, Copy, Default, PartialEq, Eq)]
 pub struct HostNumber {
+    /// 1 where there is a number, else 0.
     pub present: u64,
+    /// The number.
     pub value: u64,
 }
 
@@ -89,8 +110,11 @@ pub struct HostNumber {
 #[repr(C)]
 #[derive(Debug, Clone, Copy, Default, PartialEq, Eq)]
 pub struct HostPlace {
+    /// 1 where there is a place, else 0.
     pub present: u64,
+    /// Its phase.
     pub phase: u64,
+    /// Its position in that phase's action list.
     pub position: u64,
 }
 
@@ -100,14 +124,23 @@ pub struct HostPlace {
 #[repr(C)]
 #[derive(Debug, Clone, Copy, PartialEq, Eq)]
 pub struct HostControls {
+    /// 0 not set, 1 On, 2 DetectionOnly, 3 Off.
     pub mode: u64,
+    /// 0 not set, 1 On, 2 Off.
     pub access: u64,
+    /// 0 not set, 1 URLENCODED, 2 MULTIPART, 3 JSON, 4 XML.
     pub processor: u64,
+    /// How many ranges are held.
     pub ranges: u64,
+    /// How many targets are held.
     pub targets: u64,
+    /// Where the ranges start.
     pub starts: [u64; MOST_RANGES],
+    /// Where the ranges end.
     pub ends: [u64; MOST_RANGES],
+    /// The phases of the targets' places.
     pub phases: [u64; MOST_TARGETS],
+    /// The positions of the targets' places.
     pub positions: [u64; MOST_TARGETS],
 }
 
@@ -132,13 +165,21 @@ impl Default for HostControls {
 #[repr(C)]
 #[derive(Debug, Clone, Copy, Default, PartialEq, Eq)]
 pub struct HostMetadata {
+    /// The last id action.
     pub id: HostNumber,
+    /// The last msg.
     pub msg: HostPlace,
+    /// The last logdata.
     pub logdata: HostPlace,
+    /// The last rev.
     pub rev: HostPlace,
+    /// The last ver.
     pub ver: HostPlace,
+    /// The last severity.
     pub severity: HostNumber,
+    /// The last maturity.
     pub maturity: HostNumber,
+    /// The last accuracy.
     pub accuracy: HostNumber,
 }
 
@@ -146,14 +187,23 @@ pub struct HostMetadata {
 #[repr(C)]
 #[derive(Debug, Clone, Copy, Default, PartialEq, Eq)]
 pub struct HostIntervention {
+    /// 1 where there is an intervention, else 0.
     pub present: u64,
+    /// Its status.
     pub status: u64,
+    /// Where a redirect leads.
     pub url: HostPlace,
+    /// The log text.
     pub log: HostPlace,
+    /// The closing rule's id.
     pub closing: HostNumber,
+    /// The starter's id, where it is another.
     pub starter: HostNumber,
+    /// The phase in which it came about.
     pub phase: u64,
+    /// 1 where the connection is dropped, else 0.
     pub drop: u64,
+    /// The starter's metadata.
     pub metadata: HostMetadata,
 }
 
@@ -162,10 +212,15 @@ pub struct HostIntervention {
 #[repr(C)]
 #[derive(Debug, Clone, Copy, Default, PartialEq, Eq)]
 pub struct HostTransaction {
+    /// What directives have set.
     pub controls: HostControls,
+    /// 1 where the request is allowed, else 0.
     pub allowed: u64,
+    /// What stops the request.
     pub intervention: HostIntervention,
+    /// How many matched ids are in use.
     pub ids: u64,
+    /// How many data entries are in use.
     pub entries: u64,
 }
 
@@ -174,8 +229,11 @@ pub struct HostTransaction {
 #[repr(C)]
 #[derive(Debug, Clone, Copy, Default, PartialEq, Eq)]
 pub struct HostAnswer {
+    /// 0, 10 or a refusal's number.
     pub answer: u64,
+    /// With 10, the index of the rule in error, else 0.
     pub error: u64,
+    /// How many entries the journal holds.
     pub visits: u64,
 }
 
@@ -183,7 +241,9 @@ pub struct HostAnswer {
 #[repr(C)]
 #[derive(Debug, Clone, Copy, Default, PartialEq, Eq)]
 pub struct HostAsked {
+    /// 0 or a refusal's number.
     pub answer: u64,
+    /// The value, 0 after a refusal.
     pub value: u64,
 }
 
@@ -191,7 +251,9 @@ pub struct HostAsked {
 #[repr(C)]
 #[derive(Debug, Clone, Copy, Default, PartialEq, Eq)]
 pub struct HostTarget {
+    /// 0 or a refusal's number.
     pub answer: u64,
+    /// The target's place.
     pub target: HostPlace,
 }
 
@@ -199,7 +261,9 @@ pub struct HostTarget {
 #[repr(C)]
 #[derive(Debug, Clone, Copy, Default, PartialEq, Eq)]
 pub struct HostChanged {
+    /// 0 or a refusal's number.
     pub answer: u64,
+    /// The controls after the addition, as given after a refusal.
     pub controls: HostControls,
 }
 
@@ -207,7 +271,10 @@ pub struct HostChanged {
 #[repr(C)]
 #[derive(Debug, Clone, Copy, Default, PartialEq, Eq)]
 pub struct ReadRecord {
+    /// 0 or a refusal's number.
     pub answer: u64,
+    /// 0 unsupported, 1 ruleEngine, 2 ruleRemoveById, 3 ruleRemoveTargetById, 4 requestBodyAccess, 5 requestBodyProcessor.
     pub form: u64,
+    /// The number of a mode, an access or a processor, how many ranges, or where a target is cut.
     pub value: u64,
 }

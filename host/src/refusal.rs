@@ -9,14 +9,23 @@ use crate::values::numbered;
 /// everything that was lent is as before.
 #[derive(Debug, Clone, Copy, PartialEq, Eq, Hash)]
 pub enum Refusal {
+    /// The phase is not 1 to 5, or the rule set's mode not 0 to 2.
     UnknownPhaseOrMode = 1,
+    /// Too many rules, actions, markers or bytes; for the directive reader, a text that is too long.
     TooLarge = 2,
+    /// The transaction counts more than it or a list can hold.
     Miscounted = 3,
+    /// The outcomes are not as many as the rules.
     OutcomeCount = 4,
+    /// A record holds what no record may; for an added range, its start is above its end.
     BadRecord = 5,
+    /// The text has a byte of 80 (hexadecimal) or more.
     HighByte = 6,
+    /// A list has too few free entries.
     NoRoom = 7,
+    /// Ranges, held and to come, are more than 256.
     TooManyRanges = 8,
+    /// Targets, held and to come, are more than 64.
     TooManyTargets = 9,
 }
 

@@ -53,9 +53,13 @@ impl RuleSet {
 /// them to [`Transaction::run_records`](crate::Transaction::run_records).
 #[derive(Debug, Clone, Copy, Default)]
 pub struct Records<'a> {
+    /// The rules of the phase.
     pub rules: &'a [Rule],
+    /// The rules' actions.
     pub actions: &'a [Action],
+    /// The markers, in record order.
     pub markers: &'a [Marker],
+    /// The text that actions and markers point into.
     pub text: &'a [u8],
 }
 

@@ -7,8 +7,11 @@ use crate::records::{HostNumber, HostPlace};
 /// The mode of a rule set, and the one in force.
 #[derive(Debug, Clone, Copy, PartialEq, Eq, Hash)]
 pub enum Mode {
+    /// Rules match and stop requests.
     On,
+    /// Rules match, and none stops a request.
     DetectionOnly,
+    /// No rule is visited.
     Off,
 }
 
@@ -36,9 +39,13 @@ impl fmt::Display for Mode {
 /// The processor of the request body that a directive has set.
 #[derive(Debug, Clone, Copy, PartialEq, Eq, Hash)]
 pub enum BodyProcessor {
+    /// URLENCODED
     Urlencoded,
+    /// MULTIPART
     Multipart,
+    /// JSON
     Json,
+    /// XML
     Xml,
 }
 
@@ -66,6 +73,7 @@ impl fmt::Display for BodyProcessor {
 #[repr(u8)]
 #[derive(Debug, Clone, Copy, PartialEq, Eq, Hash)]
 pub enum Outcome {
+    /// It did not match.
     Missed = 0,
     /// Matched without a variable, as an unconditional rule does.
     Matched = 1,
@@ -78,10 +86,13 @@ pub enum Outcome {
 /// What a visit found of its rule.
 #[derive(Debug, Clone, Copy, PartialEq, Eq, Hash)]
 pub enum Verdict {
+    /// The outcome was missed.
     Missed,
+    /// The outcome was one of the two that match.
     Matched,
     /// The rule's id lies in a removed range: its outcome was not looked at.
     Removed,
+    /// The outcome was the rule error: this visit is the last.
     Error,
 }
 
@@ -109,7 +120,9 @@ impl fmt::Display for Verdict {
 /// [`RuleSets`](crate::RuleSets) finds the texts.
 #[derive(Debug, Clone, Copy, PartialEq, Eq, Hash)]
 pub struct Place {
+    /// 1 to 5.
     pub phase: u64,
+    /// In that phase's whole action list.
     pub position: u64,
 }
 
@@ -118,6 +131,7 @@ pub struct Place {
 pub struct Data {
     /// The rule's own id, else that of the rule that started its unit, else none.
     pub id: Option<u64>,
+    /// The phase of the call.
     pub phase: u64,
     /// The rule's index.
     pub index: u64,
