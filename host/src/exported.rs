@@ -152,47 +152,31 @@ by_value! {
 /// # Safety
 ///
 /// The type is `#[repr(C)]` and made of `u64` alone: it has no bytes between them, and any numbers make one.
-unsafe trait Words: Copy {}
+pub unsafe trait Words: Copy {}
 
 // SAFETY: see crate::records.
 unsafe impl Words for Rule {}
 unsafe impl Words for Action {}
+unsafe impl Words for Marker {}
 unsafe impl Words for DataRecord {}
 unsafe impl Words for JournalRecord {}
+unsafe impl Words for HostTransaction {}
 
 /// How many numbers a list of records is.
 fn count<T: Words>(records: &[T]) -> usize {
     std::mem::size_of_val(records) / std::mem::size_of::<u64>()
 }
 
-fn words<T: Words>(records: &[T]) -> &[u64] {
+/// The numbers of a list of records, without a copy.
+pub fn words<T: Words>(records: &[T]) -> &[u64] {
     // SAFETY: the records are so many numbers one behind the other, and stay borrowed as long as the numbers are.
     unsafe { std::slice::from_raw_parts(records.as_ptr().cast(), count(records)) }
 }
 
-fn words_mut<T: Words>(records: &mut [T]) -> &mut [u64] {
+/// The same, to be written: any numbers make records.
+pub fn words_mut<T: Words>(records: &mut [T]) -> &mut [u64] {
     // SAFETY: as above; any numbers that are written make records again.
     unsafe { std::slice::from_raw_parts_mut(records.as_mut_ptr().cast(), count(records)) }
-}
-
-/// The numbers of a list of rules.
-pub fn rule_words(rules: &[Rule]) -> &[u64] {
-    words(rules)
-}
-
-/// The numbers of a list of actions.
-pub fn action_words(actions: &[Action]) -> &[u64] {
-    words(actions)
-}
-
-/// The numbers of a list of data entries, to be written.
-pub fn data_words(entries: &mut [DataRecord]) -> &mut [u64] {
-    words_mut(entries)
-}
-
-/// The numbers of a journal, to be written.
-pub fn journal_words(journal: &mut [JournalRecord]) -> &mut [u64] {
-    words_mut(journal)
 }
 
 /// The numbers of a list of outcomes.

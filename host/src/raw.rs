@@ -7,9 +7,8 @@ use crate::exported;
 use crate::records::{HostAnswer, HostTransaction, Marker};
 
 pub use crate::exported::{
-    action_words, data_words, engine_mode, is_rule_removed, journal_words, outcome_bytes,
-    read_directive, remove_range, remove_target, request_body_access, request_body_processor,
-    rule_words, target_at, target_count,
+    engine_mode, is_rule_removed, outcome_bytes, read_directive, remove_range, remove_target,
+    request_body_access, request_body_processor, target_at, target_count, words, words_mut, Words,
 };
 pub use crate::records::ReadRecord;
 

@@ -133,16 +133,16 @@ impl Transaction {
             phase,
             mode: mode.number(),
             status,
-            rules: exported::rule_words(records.rules),
-            actions: exported::action_words(records.actions),
+            rules: exported::words(records.rules),
+            actions: exported::words(records.actions),
             markers: records.markers,
             text: records.text,
             outcomes: exported::outcome_bytes(outcomes),
         };
         let mut lists = Lists {
             ids: &mut self.ids,
-            entries: exported::data_words(&mut self.entries),
-            journal: exported::journal_words(&mut self.journal),
+            entries: exported::words_mut(&mut self.entries),
+            journal: exported::words_mut(&mut self.journal),
         };
         let answer = exported::run_phase(&mut self.record, &lent, &mut lists);
         Refusal::unless(answer.answer, Phase::new(self, answer, before))

@@ -188,8 +188,8 @@ fn check(stops: Act, wanted: &HostTransaction) {
         phase: 3,
         mode: 0,
         status: 403,
-        rules: raw::rule_words(records.rules),
-        actions: raw::action_words(records.actions),
+        rules: raw::words(records.rules),
+        actions: raw::words(records.actions),
         markers: records.markers,
         text: records.text,
         outcomes: &[2, 2],
@@ -283,13 +283,10 @@ fn lists_of_records_are_their_numbers() {
         text: Part { start: 3, len: 4 },
         value: Part { start: 5, len: 6 },
     };
-    assert_eq!(
-        raw::rule_words(&[rule, rule]),
-        [1, 2, 3, 4, 5, 1, 2, 3, 4, 5]
-    );
-    assert_eq!(raw::action_words(&[action]), [1, 2, 3, 4, 5, 6]);
+    assert_eq!(raw::words(&[rule, rule]), [1, 2, 3, 4, 5, 1, 2, 3, 4, 5]);
+    assert_eq!(raw::words(&[action]), [1, 2, 3, 4, 5, 6]);
     let mut entries = [DataRecord::default(); 2];
-    raw::data_words(&mut entries)[4..].copy_from_slice(&[1, 2, 3, 4]);
+    raw::words_mut(&mut entries)[4..].copy_from_slice(&[1, 2, 3, 4]);
     let entry = DataRecord {
         present: 1,
         id: 2,
@@ -298,7 +295,7 @@ fn lists_of_records_are_their_numbers() {
     };
     assert_eq!(entries, [DataRecord::default(), entry]);
     let mut journal = [JournalRecord::default(); 1];
-    raw::journal_words(&mut journal).copy_from_slice(&[5, 6]);
+    raw::words_mut(&mut journal).copy_from_slice(&[5, 6]);
     let visit = JournalRecord {
         index: 5,
         verdict: 6,
