@@ -1,7 +1,5 @@
 //! What crates/bench exports, for the programs that time the phase call.
 
-#![deny(unsafe_code)]
-
 #[cfg(feature = "phase")]
 mod exported;
 

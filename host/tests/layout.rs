@@ -280,6 +280,30 @@ fn the_flags_of_a_transaction_are_read() {
 }
 
 #[test]
+fn every_number_of_an_answer() {
+    let lent = Lent {
+        phase: 1,
+        rules: &[0; 10],
+        outcomes: &[1, 3],
+        ..Lent::default()
+    };
+    let (mut ids, mut entries, mut journal) = ([0; 2], [0; 8], [0; 4]);
+    let mut lists = Lists {
+        ids: &mut ids,
+        entries: &mut entries,
+        journal: &mut journal,
+    };
+    let answer = raw::run_phase(&mut HostTransaction::default(), &lent, &mut lists);
+    let expected = HostAnswer {
+        answer: 10,
+        error: 1,
+        visits: 2,
+    };
+    assert_eq!(answer, expected);
+    assert_eq!(journal, [0, 1, 1, 3]);
+}
+
+#[test]
 fn lists_of_records_are_their_numbers() {
     let rule = Rule {
         present: 1,
