@@ -1,23 +1,43 @@
-//! What crates/host and crates/bench export, declared again, and a safe function over each. All `unsafe` code is in this
-//! file.
+//! What crates/host exports, declared again, a safe function over each call, and lists of records as the lists of
+//! numbers that they are. All `unsafe` code is in this file.
 //!
-//! Nothing checks the declarations against src/lib.rt of the two: names, order and widths must be the same there.
-//! A lent list is a pointer to its first entry and then its length.
+//! Nothing checks the declarations against src/lib.rt there: names, order and widths must be the same. tests/layout.rs
+//! writes and reads every number of every record through calls. A lent list is a pointer to its first entry and then its
+//! length.
 
 #![allow(unsafe_code)]
 
-/// What the directive reader answers: 0 or a refusal's number, the directive's form, and its value.
-#[cfg(feature = "directives")]
-#[repr(C)]
-#[derive(Debug, Clone, Copy, PartialEq, Eq)]
-pub struct ReadRecord {
-    pub answer: u64,
-    pub form: u64,
-    pub value: u64,
-}
+use crate::raw::{Lent, Lists};
+use crate::records::{
+    Action, DataRecord, HostAnswer, HostAsked, HostChanged, HostControls, HostNumber, HostTarget,
+    HostTransaction, JournalRecord, Marker, ReadRecord, Rule,
+};
+use crate::Outcome;
 
-#[cfg(feature = "directives")]
 extern "C" {
+    fn tivembo_run_phase(
+        transaction: *mut HostTransaction,
+        phase: u64,
+        mode: u64,
+        status: u64,
+        rules: *const u64,
+        rules_len: usize,
+        actions: *const u64,
+        actions_len: usize,
+        markers: *const Marker,
+        markers_len: usize,
+        text: *const u8,
+        text_len: usize,
+        outcomes: *const u8,
+        outcomes_len: usize,
+        ids: *mut u64,
+        ids_len: usize,
+        entries: *mut u64,
+        entries_len: usize,
+        journal: *mut u64,
+        journal_len: usize,
+    ) -> HostAnswer;
+
     fn tivembo_read_directive(
         name: *const u8,
         name_len: usize,
@@ -28,18 +48,59 @@ extern "C" {
         ends: *mut u64,
         ends_len: usize,
     ) -> ReadRecord;
+
+    fn tivembo_engine_mode(controls: HostControls, ruleset_mode: u64) -> HostAsked;
+    fn tivembo_is_rule_removed(controls: HostControls, id: HostNumber) -> HostAsked;
+    fn tivembo_target_count(controls: HostControls) -> HostAsked;
+    fn tivembo_target_at(controls: HostControls, at: u64) -> HostTarget;
+    fn tivembo_request_body_access(controls: HostControls) -> HostAsked;
+    fn tivembo_request_body_processor(controls: HostControls) -> HostAsked;
+    fn tivembo_remove_range(controls: HostControls, start: u64, end: u64) -> HostChanged;
+    fn tivembo_remove_target(controls: HostControls, phase: u64, position: u64) -> HostChanged;
+}
+
+/// A phase call on whatever is lent.
+pub fn run_phase(
+    transaction: &mut HostTransaction,
+    lent: &Lent<'_>,
+    lists: &mut Lists<'_>,
+) -> HostAnswer {
+    // SAFETY: the contract has no `requires`. Each pointer and length is a slice that is lent for the whole call, and
+    // the transaction and the three lists that are written are borrowed by nobody else.
+    unsafe {
+        tivembo_run_phase(
+            transaction,
+            lent.phase,
+            lent.mode,
+            lent.status,
+            lent.rules.as_ptr(),
+            lent.rules.len(),
+            lent.actions.as_ptr(),
+            lent.actions.len(),
+            lent.markers.as_ptr(),
+            lent.markers.len(),
+            lent.text.as_ptr(),
+            lent.text.len(),
+            lent.outcomes.as_ptr(),
+            lent.outcomes.len(),
+            lists.ids.as_mut_ptr(),
+            lists.ids.len(),
+            lists.entries.as_mut_ptr(),
+            lists.entries.len(),
+            lists.journal.as_mut_ptr(),
+            lists.journal.len(),
+        )
+    }
 }
 
 /// Reads one directive; the ranges of a ruleRemoveById go to the start of the two lists.
-#[cfg(feature = "directives")]
 pub fn read_directive(
     name: &[u8],
     value: &[u8],
     starts: &mut [u64],
     ends: &mut [u64],
 ) -> ReadRecord {
-    // SAFETY: the contract has no `requires`. Each pointer and length is a slice that is lent for the whole call, and
-    // the two lists that are written are borrowed by nobody else.
+    // SAFETY: as for the phase call.
     unsafe {
         tivembo_read_directive(
             name.as_ptr(),
@@ -54,106 +115,72 @@ pub fn read_directive(
     }
 }
 
-/// The answers and the numbers of visits, each summed over all calls.
-#[cfg(feature = "phase")]
-#[repr(C)]
-#[derive(Debug, Clone, Copy, PartialEq, Eq)]
-pub struct Sums {
-    pub answers: u64,
-    pub visits: u64,
+/// Safe functions over the calls that take and give records alone.
+macro_rules! by_value {
+    ($($(#[$doc:meta])* $name:ident = $exported:ident($($argument:ident: $type:ty),*) -> $answer:ty;)*) => {
+        $(
+            $(#[$doc])*
+            pub fn $name($($argument: $type),*) -> $answer {
+                // SAFETY: the contract has no `requires`, and nothing is lent: records go over by value.
+                unsafe { $exported($($argument),*) }
+            }
+        )*
+    };
 }
 
-/// What a phase call only reads, and the ranges that its transaction holds.
-#[cfg(feature = "phase")]
-#[derive(Debug, Clone, Default)]
-pub struct Lent {
-    pub phase: u64,
-    pub mode: u64,
-    pub status: u64,
-    pub rules: Vec<u64>,
-    pub actions: Vec<u64>,
-    pub markers: Vec<u64>,
-    pub text: Vec<u8>,
-    pub outcomes: Vec<u8>,
-    pub starts: Vec<u64>,
-    pub ends: Vec<u64>,
+by_value! {
+    /// The number of the mode in force (0 On, 1 DetectionOnly, 2 Off) where the rule set has this one.
+    engine_mode = tivembo_engine_mode(controls: HostControls, ruleset_mode: u64) -> HostAsked;
+    /// 1 where a rule with this id, or with none, is removed, else 0.
+    is_rule_removed = tivembo_is_rule_removed(controls: HostControls, id: HostNumber) -> HostAsked;
+    /// How many removed targets are held.
+    target_count = tivembo_target_count(controls: HostControls) -> HostAsked;
+    /// The removed target at a place of the list, counted from 0, or none behind its end.
+    target_at = tivembo_target_at(controls: HostControls, at: u64) -> HostTarget;
+    /// 0 where body access is on, 1 where it is off.
+    request_body_access = tivembo_request_body_access(controls: HostControls) -> HostAsked;
+    /// 0 where no body processor is set, else its number: 1 URLENCODED, 2 MULTIPART, 3 JSON, 4 XML.
+    request_body_processor = tivembo_request_body_processor(controls: HostControls) -> HostAsked;
+    /// Adds a range of removed ids.
+    remove_range = tivembo_remove_range(controls: HostControls, start: u64, end: u64) -> HostChanged;
+    /// Adds the place of a removed target.
+    remove_target = tivembo_remove_target(controls: HostControls, phase: u64, position: u64) -> HostChanged;
 }
 
-/// What a phase call writes.
-#[cfg(feature = "phase")]
-#[derive(Debug, Clone, Default)]
-pub struct Written {
-    pub ids: Vec<u64>,
-    pub entries: Vec<u64>,
-    pub journal: Vec<u64>,
+/// Records that are 64-bit numbers and nothing else.
+///
+/// # Safety
+///
+/// The type is `#[repr(C)]` and made of `u64` alone: it has no bytes between them, and any numbers make one.
+pub unsafe trait Words: Copy {}
+
+// SAFETY: see crate::records.
+unsafe impl Words for Rule {}
+unsafe impl Words for Action {}
+unsafe impl Words for Marker {}
+unsafe impl Words for DataRecord {}
+unsafe impl Words for JournalRecord {}
+unsafe impl Words for HostTransaction {}
+
+/// How many numbers a list of records is.
+fn count<T: Words>(records: &[T]) -> usize {
+    std::mem::size_of_val(records) / std::mem::size_of::<u64>()
 }
 
-#[cfg(feature = "phase")]
-extern "C" {
-    fn tivembo_time_phase(
-        repeat: u64,
-        phase: u64,
-        mode: u64,
-        status: u64,
-        rules: *const u64,
-        rules_len: usize,
-        actions: *const u64,
-        actions_len: usize,
-        markers: *const u64,
-        markers_len: usize,
-        text: *const u8,
-        text_len: usize,
-        outcomes: *const u8,
-        outcomes_len: usize,
-        starts: *const u64,
-        starts_len: usize,
-        ends: *const u64,
-        ends_len: usize,
-        ids: *mut u64,
-        ids_len: usize,
-        entries: *mut u64,
-        entries_len: usize,
-        journal: *mut u64,
-        journal_len: usize,
-    ) -> Sums;
+/// The numbers of a list of records, without a copy.
+pub fn words<T: Words>(records: &[T]) -> &[u64] {
+    // SAFETY: the records are so many numbers one behind the other, and stay borrowed as long as the numbers are.
+    unsafe { std::slice::from_raw_parts(records.as_ptr().cast(), count(records)) }
 }
 
-/// Makes one phase call so many times, each from the same transaction.
-#[cfg(feature = "phase")]
-pub fn time_phase(repeat: u64, lent: &Lent, written: &mut Written) -> Sums {
-    let Written {
-        ids,
-        entries,
-        journal,
-    } = written;
-    // SAFETY: the contract has no `requires`. Each pointer and length is a slice that is lent for the whole call, and
-    // the three lists that are written are borrowed by nobody else.
-    unsafe {
-        tivembo_time_phase(
-            repeat,
-            lent.phase,
-            lent.mode,
-            lent.status,
-            lent.rules.as_ptr(),
-            lent.rules.len(),
-            lent.actions.as_ptr(),
-            lent.actions.len(),
-            lent.markers.as_ptr(),
-            lent.markers.len(),
-            lent.text.as_ptr(),
-            lent.text.len(),
-            lent.outcomes.as_ptr(),
-            lent.outcomes.len(),
-            lent.starts.as_ptr(),
-            lent.starts.len(),
-            lent.ends.as_ptr(),
-            lent.ends.len(),
-            ids.as_mut_ptr(),
-            ids.len(),
-            entries.as_mut_ptr(),
-            entries.len(),
-            journal.as_mut_ptr(),
-            journal.len(),
-        )
-    }
+/// The same, to be written: any numbers make records.
+pub fn words_mut<T: Words>(records: &mut [T]) -> &mut [u64] {
+    // SAFETY: as above; any numbers that are written make records again.
+    unsafe { std::slice::from_raw_parts_mut(records.as_mut_ptr().cast(), count(records)) }
+}
+
+/// The numbers of a list of outcomes.
+pub fn outcome_bytes(outcomes: &[Outcome]) -> &[u8] {
+    // SAFETY: `Outcome` is `#[repr(u8)]`, so each is one byte, and they stay borrowed as long as the bytes are.
+    unsafe { std::slice::from_raw_parts(outcomes.as_ptr().cast(), outcomes.len()) }
 }

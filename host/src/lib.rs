@@ -1,10 +1,83 @@
-//! The proved library, as Rust calls it.
+//! The proved phase call and directive reader, for a gateway in Rust.
+//!
+//! A gateway makes one [`RuleSet`] for each phase when it reads its rules, and one [`Transaction`] for each request. For
+//! each phase it finds the outcome of every rule and calls [`Transaction::run_phase`]; the [`Phase`] that comes back says
+//! which rules were visited, which ids and data were added, and whether the request is stopped. Texts are found again with
+//! [`RuleSets`].
+//!
+//! ```
+//! use tivembo::{Act, Mode, Outcome, RuleSet, RuleSets, Transaction};
+//!
+//! let mut headers = RuleSet::builder();
+//! headers.rule(Some(1), false, &[Act::Id(1), Act::Ctl(b"ruleRemoveById", b"942100-942999")]);
+//! let headers = headers.build()?;
+//! let mut body = RuleSet::builder();
+//! body.rule(Some(942_999), false, &[Act::Id(942_999), Act::Deny]);
+//! body.rule(Some(943_000), false, &[Act::Id(943_000), Act::Deny, Act::Msg(b"odd pallet number")]);
+//! let body = body.build()?;
+//! let rules = RuleSets::new().with(1, &headers).with(2, &body);
+//!
+//! let matched = Outcome::MatchedVariable;
+//! let mut transaction = Transaction::new();
+//! transaction.run_phase(&headers, 1, Mode::On, 403, &[matched])?;
+//! let phase = transaction.run_phase(&body, 2, Mode::On, 403, &[matched, matched])?;
+//! assert_eq!(phase.ids(), [943_000]); // 942999 is removed
+//!
+//! let stop = transaction.intervention().expect("943000 has deny").with_texts(&rules)?;
+//! assert_eq!((stop.status, stop.log), (403, Some(&b"odd pallet number"[..])));
+//! # Ok::<(), Box<dyn std::error::Error>>(())
+//! ```
+//!
+//! # What is proved, and what is not
+//!
+//! Behind every call stands a function of libhost.a that is proved to do what the definitions say, whatever it is lent: see
+//! docs/AUDIT.md. This crate itself is plain Rust. It makes the records, declares the calls (src/exported.rs, the only file
+//! with `unsafe` code) and puts names on the numbers; it is tested, not proved.
+//!
+//! # What the host does for real rule sets
+//!
+//! - **Which rules, which outcomes.** The host puts each rule into the rule set of its phase and evaluates it: operators,
+//!   variables, transformations and the removed targets are its own. Only rules that are visited and not removed need their
+//!   outcome; the others' may be anything, for example [`Outcome::Missed`].
+//! - **Actions without an effect in the loop** (setvar, captures, tags, log, t: and so on) are left out, or are
+//!   [`Act::Other`]. They count towards the 4,096 actions.
+//! - **block.** The host maps it by its own default action: the status is given with each call. A site whose default
+//!   action is not a stop gives [`Act::Pass`] or what else it stands for instead of [`Act::Block`].
+//! - **Unknown variables.** A removed target is kept whatever its variable is; the host drops those that it does not know,
+//!   and applies the others when it finds the outcomes.
+//! - **Texts are ASCII.** A call with any byte of 80 (hexadecimal) or more in its text is refused, also in a msg.
 
-#![deny(unsafe_code)]
+#![warn(missing_docs)]
 
+mod act;
+mod check;
+mod controls;
+mod directive;
 mod exported;
+mod intervention;
+mod limits;
+mod phase;
+pub mod raw;
+mod records;
+mod refusal;
+mod ruleset;
+mod rulesets;
+mod transaction;
+mod values;
 
-#[cfg(feature = "directives")]
-pub use exported::{read_directive, ReadRecord};
-#[cfg(feature = "phase")]
-pub use exported::{time_phase, Lent, Sums, Written};
+pub use act::Act;
+pub use controls::Controls;
+pub use directive::{read_directive, Directive, Target};
+pub use intervention::{Intervention, Metadata};
+pub use limits::{Broken, Limit, Where};
+pub use phase::{Answer, Phase};
+pub use records::{
+    Action, DataRecord, HostAnswer, HostAsked, HostChanged, HostControls, HostIntervention,
+    HostMetadata, HostNumber, HostPlace, HostTarget, HostTransaction, JournalRecord, Marker, Part,
+    Rule, MOST_RANGES, MOST_TARGETS,
+};
+pub use refusal::Refusal;
+pub use ruleset::{Builder, Records, RuleSet};
+pub use rulesets::{NoSuchText, RuleSets};
+pub use transaction::Transaction;
+pub use values::{BodyProcessor, Data, Mode, Outcome, Place, Verdict};

@@ -1,4 +1,4 @@
-// The phase call in a loop, for host/phase-speed. The contracts say nothing: what a call gives is proved in crates/transaction,
+// The phase call in a loop, for beside/phase-speed. The contracts say nothing: what a call gives is proved in crates/transaction,
 // and here is proved that the loop is safe and ends.
 use control::Controls;
 use phase::Phase;

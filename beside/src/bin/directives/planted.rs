@@ -153,7 +153,7 @@ fn written_early(question: &Question) -> Outcome {
     let room = question.starts.min(question.ends);
     if outcome.record.answer == 7 && room > 0 {
         let (mut starts, mut ends) = (vec![0; 70_000], vec![0; 70_000]);
-        host::read_directive(&question.name, &question.value, &mut starts, &mut ends);
+        tivembo::raw::read_directive(&question.name, &question.value, &mut starts, &mut ends);
         outcome.starts.lent()[..room].copy_from_slice(&starts[..room]);
         outcome.ends.lent()[..room].copy_from_slice(&ends[..room]);
     }

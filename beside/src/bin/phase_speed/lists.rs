@@ -1,6 +1,6 @@
 //! A case of one call as the lists that the proved call is lent.
 
-use host::{Lent, Written};
+use beside::{Lent, Written};
 use oracle::{Action, Case, DisruptiveAction, MetadataAction, Outcome, Rule};
 
 /// An entry that no call of ours writes: what holds it still was not written.

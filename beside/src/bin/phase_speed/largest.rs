@@ -2,7 +2,7 @@
 
 use std::time::Instant;
 
-use host::{time_phase, Lent, Sums};
+use beside::{time_phase, Lent, Sums};
 
 use crate::lists;
 

@@ -3,7 +3,7 @@
 use std::hint::black_box;
 use std::time::{Duration, Instant};
 
-use host::{time_phase, Lent};
+use beside::{time_phase, Lent};
 use oracle::{
     Action, Call, Case, ControlAction, DisruptiveAction, Entry, MetadataAction, Missed, Outcome,
     Phase, Rule, RuleEngineMode, Timed,

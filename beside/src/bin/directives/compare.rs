@@ -1,7 +1,7 @@
 //! Both sides' outcome of one directive, and whether they agree.
 
-use host::ReadRecord;
 use oracle::{CtlDirective, RuleEngineMode};
+use tivembo::raw::ReadRecord;
 
 use crate::question::Question;
 
@@ -62,7 +62,7 @@ pub fn refused(answer: u64) -> ReadRecord {
 pub fn ours(question: &Question) -> Outcome {
     let mut outcome = Outcome::before(question);
     let (starts, ends) = (outcome.starts.lent(), outcome.ends.lent());
-    outcome.record = host::read_directive(&question.name, &question.value, starts, ends);
+    outcome.record = tivembo::raw::read_directive(&question.name, &question.value, starts, ends);
     outcome
 }
 

@@ -1,6 +1,6 @@
 //! Both sides give the same before they are timed.
 
-use host::{time_phase, Lent, Sums, Written};
+use beside::{time_phase, Lent, Sums, Written};
 use oracle::{Answer, CallResult, Case, Missed, Run, Timed, Verdict};
 
 use crate::lists::{written, UNTOUCHED};

@@ -1,0 +1,114 @@
+//! Everything that a call is given, with guards around the lists that it writes.
+
+use tivembo::raw::{words, Lent, Lists};
+use tivembo::{
+    Action, HostAnswer, HostTransaction, Marker, Mode, Outcome, Records, Rule, Transaction,
+};
+
+/// A phase call: ours, or one that stands in for it.
+pub type PhaseCall = fn(&mut HostTransaction, &Lent<'_>, &mut Lists<'_>) -> HostAnswer;
+
+/// Numbers before and behind a lent list that belong to nobody.
+const GUARD: usize = 4;
+
+/// A list of numbers as it is lent, with guards on both sides. All of them differ.
+#[derive(Debug, Clone, PartialEq, Eq)]
+pub struct List(Vec<u64>);
+
+impl List {
+    pub fn new(length: usize, first: u64) -> Self {
+        let number = |at: usize| first.wrapping_sub(at as u64 * 0x0001_0003_0007);
+        Self((0..length + 2 * GUARD).map(number).collect())
+    }
+
+    pub fn len(&self) -> usize {
+        self.0.len() - 2 * GUARD
+    }
+
+    /// Lends only so many numbers; what stood behind them is guard now.
+    pub fn shorten(&mut self, length: usize) {
+        self.0.truncate(length + 2 * GUARD);
+    }
+
+    fn lent(&mut self) -> &mut [u64] {
+        let end = self.0.len() - GUARD;
+        &mut self.0[GUARD..end]
+    }
+
+    /// Whether the guards are as they are in another.
+    fn has_guards_of(&self, other: &Self) -> bool {
+        let guards = |list: &Self| {
+            let (front, rest) = list.0.split_at(GUARD);
+            let back = &rest[rest.len() - GUARD..];
+            [front.to_vec(), back.to_vec()]
+        };
+        guards(self) == guards(other)
+    }
+}
+
+/// Everything that a call is given.
+#[derive(Debug, Clone, PartialEq, Eq)]
+pub struct Given {
+    pub phase: u64,
+    pub mode: u64,
+    pub status: u64,
+    pub rules: Vec<Rule>,
+    pub actions: Vec<Action>,
+    pub markers: Vec<Marker>,
+    pub text: Vec<u8>,
+    pub outcomes: Vec<u8>,
+    pub transaction: HostTransaction,
+    pub ids: List,
+    pub entries: List,
+    pub journal: List,
+}
+
+impl Given {
+    /// Makes the call.
+    pub fn call(&mut self, call: PhaseCall) -> HostAnswer {
+        let lent = Lent {
+            phase: self.phase,
+            mode: self.mode,
+            status: self.status,
+            rules: words(&self.rules),
+            actions: words(&self.actions),
+            markers: &self.markers,
+            text: &self.text,
+            outcomes: &self.outcomes,
+        };
+        let mut lists = Lists {
+            ids: self.ids.lent(),
+            entries: self.entries.lent(),
+            journal: self.journal.lent(),
+        };
+        call(&mut self.transaction, &lent, &mut lists)
+    }
+
+    /// Whether everything that a call may not write at all is as before it.
+    pub fn keeps_guards_of(&self, before: &Self) -> bool {
+        self.rules == before.rules
+            && self.actions == before.actions
+            && self.markers == before.markers
+            && self.text == before.text
+            && self.outcomes == before.outcomes
+            && self.ids.has_guards_of(&before.ids)
+            && self.entries.has_guards_of(&before.entries)
+            && self.journal.has_guards_of(&before.journal)
+    }
+
+    /// Whether the crate's own check of a rule set says of the records what a call says that has no other fault.
+    pub fn is_checked(&self) -> bool {
+        let records = Records {
+            rules: &self.rules,
+            actions: &self.actions,
+            markers: &self.markers,
+            text: &self.text,
+        };
+        let outcomes = vec![Outcome::Missed; self.rules.len()];
+        let mut transaction = Transaction::new();
+        let ran = transaction.run_records(records, 1, Mode::On, 403, &outcomes);
+        let refused = ran.err().map_or(0, |refusal| refusal.number());
+        let checked = records.check().err();
+        refused == checked.map_or(0, |broken| broken.limit.number())
+    }
+}

@@ -1,0 +1,209 @@
+//! Random calls to which no refusal applies. What each part may be is 01's; no code of ours is asked.
+
+use tivembo::{
+    Action, HostControls, HostIntervention, HostMetadata, HostNumber, HostPlace, HostTransaction,
+    Marker, Part, Rule,
+};
+
+use crate::given::{Given, List};
+use crate::random::Random;
+
+/// Directives with their values, one behind the other in every text. Each has two ranges or one target at most.
+pub const DIRECTIVES: [(&str, &str); 7] = [
+    ("ruleRemoveById", "1-5, 7"),
+    ("RULEREMOVEBYID ", "942100"),
+    ("ruleRemoveTargetById", "1;ARGS"),
+    ("ruleEngine", "DetectionOnly"),
+    ("requestBodyAccess", "Off"),
+    ("requestBodyProcessor", "XML"),
+    ("auditEngine", "On"),
+];
+
+/// A rule has three actions at most, and there are sixteen rules at most where actions may be directives: so at most 96
+/// ranges and 48 targets come from rules, and this many may be held.
+const HELD_RANGES: u64 = 150;
+const HELD_TARGETS: u64 = 16;
+const MOST_ACTIONS: usize = 3;
+const FEW_RULES: usize = 16;
+
+pub fn legal(random: &mut Random) -> Given {
+    let rules = match random.one_in(50) {
+        true => 1 + random.below(512),
+        false => 1 + random.below(FEW_RULES),
+    };
+    let (text, directives) = text(random);
+    let actions: Vec<Action> = (0..random.below(40))
+        .map(|_| action(random, text.len(), &directives, rules <= FEW_RULES))
+        .collect();
+    let transaction = transaction(random);
+    let (ids, entries) = (transaction.ids as usize, transaction.entries as usize);
+    let mut list = |length, more| List::new(length + random.below(more), random.bits());
+    let [ids, entries, journal] = [
+        list(ids + rules, 4),
+        list(4 * (entries + rules), 8),
+        list(2 * rules, 4),
+    ];
+    let mut marker = |_| Marker {
+        name: part(random, text.len()),
+        position: random.number(rules as u64 + 1),
+    };
+    let markers = (0..4).map(&mut marker).collect();
+    let mut rule = |_| rule(random, actions.len());
+    let rules: Vec<Rule> = (0..rules).map(&mut rule).collect();
+    Given {
+        phase: 1 + random.number(5),
+        mode: random.number(3),
+        status: random.wild(),
+        outcomes: rules.iter().map(|_| random.number(4) as u8).collect(),
+        rules,
+        actions,
+        markers,
+        text,
+        transaction,
+        ids,
+        entries,
+        journal,
+    }
+}
+
+/// A text that begins with some filling and has every directive, and where these stand.
+fn text(random: &mut Random) -> (Vec<u8>, Vec<[Part; 2]>) {
+    let mut text: Vec<u8> = (0..random.below(60))
+        .map(|_| random.number(128) as u8)
+        .collect();
+    let mut put = |added: &str| {
+        let part = Part {
+            start: text.len() as u64,
+            len: added.len() as u64,
+        };
+        text.extend(added.bytes());
+        part
+    };
+    let directives = DIRECTIVES.map(|(name, value)| [put(name), put(value)]);
+    (text, directives.to_vec())
+}
+
+fn part(random: &mut Random, bytes: usize) -> Part {
+    let start = random.below(bytes + 1);
+    Part {
+        start: start as u64,
+        len: random.below(bytes - start + 1) as u64,
+    }
+}
+
+fn action(random: &mut Random, bytes: usize, directives: &[[Part; 2]], ctl: bool) -> Action {
+    if ctl && random.one_in(3) {
+        let [text, value] = random.of(directives);
+        return Action {
+            kind: 19,
+            number: random.wild(),
+            text,
+            value,
+        };
+    }
+    // 19 is left out: other parts of the text might be read as more directives than are counted here.
+    let kind = random.of(&[
+        0, 1, 2, 3, 4, 5, 6, 7, 8, 9, 10, 11, 12, 13, 14, 15, 16, 17, 18, 20,
+    ]);
+    let any = random.wild();
+    let number = match most(kind) {
+        u64::MAX => any,
+        most => any % (most + 1),
+    };
+    Action {
+        kind,
+        number,
+        text: part(random, bytes),
+        value: part(random, bytes),
+    }
+}
+
+/// The greatest number of a kind.
+pub fn most(kind: u64) -> u64 {
+    match kind {
+        8 => 4_294_967_295,
+        16..=18 => 255,
+        20 => 65_535,
+        _ => u64::MAX,
+    }
+}
+
+fn rule(random: &mut Random, actions: usize) -> Rule {
+    let first = random.below(actions + 1);
+    let count = random.below((actions - first).min(MOST_ACTIONS) + 1);
+    Rule {
+        // The id of a rule that has none is free.
+        present: random.number(2),
+        id: random.of(&[3, 7, 942_100, u64::MAX]),
+        link: random.number(2),
+        first: first as u64,
+        count: count as u64,
+    }
+}
+
+/// A transaction with known numbers, and any where 01 does not look: in arrays, and in what is absent.
+fn transaction(random: &mut Random) -> HostTransaction {
+    let present = random.number(2);
+    HostTransaction {
+        controls: HostControls {
+            mode: random.number(4),
+            access: random.number(3),
+            processor: random.number(5),
+            ranges: random.number(HELD_RANGES + 1),
+            targets: random.number(HELD_TARGETS + 1),
+            starts: std::array::from_fn(|_| random.wild()),
+            ends: std::array::from_fn(|_| random.wild()),
+            phases: std::array::from_fn(|_| random.wild()),
+            positions: std::array::from_fn(|_| random.wild()),
+        },
+        allowed: random.number(2),
+        intervention: HostIntervention {
+            present,
+            ..intervention(random, present == 0)
+        },
+        ids: random.number(6),
+        entries: random.number(6),
+    }
+}
+
+/// An intervention. Where it is absent its flags are free too.
+fn intervention(random: &mut Random, absent: bool) -> HostIntervention {
+    let flag = |random: &mut Random| {
+        if absent {
+            random.wild()
+        } else {
+            random.number(2)
+        }
+    };
+    let mut number = || HostNumber {
+        present: flag(random),
+        value: random.wild(),
+    };
+    let [closing, starter, id, severity, maturity, accuracy] = std::array::from_fn(|_| number());
+    let mut place = || HostPlace {
+        present: flag(random),
+        phase: random.wild(),
+        position: random.wild(),
+    };
+    let [url, log, msg, logdata, rev, ver] = std::array::from_fn(|_| place());
+    HostIntervention {
+        present: 0,
+        status: random.wild(),
+        url,
+        log,
+        closing,
+        starter,
+        phase: random.wild(),
+        drop: flag(random),
+        metadata: HostMetadata {
+            id,
+            msg,
+            logdata,
+            rev,
+            ver,
+            severity,
+            maturity,
+            accuracy,
+        },
+    }
+}

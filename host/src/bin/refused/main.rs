@@ -1,0 +1,150 @@
+//! refused [--planted WRONG] [N [SEED]]
+//! refused --wrong
+//!
+//! Makes N calls that must be turned away: each of 01's nine reasons alone and every pair of them, planted in random calls
+//! to which none applies. The answer must be the smaller number, and every byte of the transaction, the lists and what
+//! stands around the lists must be as lent. Which number is right comes from what was planted, not from any code of ours.
+//! Then it makes N calls with records that hold anything: they may be answered as they like, but must return, keep
+//! to their lists, and leave everything as lent where they are refused. For all of these, what the crate's own check of a
+//! rule set says of the records must be what a call says that has no other fault.
+//!
+//! The last line is `N refused and N wild calls, W wrong`; the exit status is 1 where W is not 0. With --planted a wrong
+//! call stands in for ours, which must be found; --wrong lists them.
+
+mod given;
+mod legal;
+mod plant;
+mod planted;
+mod random;
+mod wild;
+
+use std::env;
+use std::process::ExitCode;
+
+use given::{Given, PhaseCall};
+use plant::FAULTS;
+use planted::WRONG;
+use random::Random;
+use tivembo::HostAnswer;
+
+/// How many wrong calls are shown.
+const SHOWN: u64 = 3;
+
+struct Options {
+    count: u64,
+    seed: u64,
+    call: PhaseCall,
+}
+
+fn main() -> ExitCode {
+    let words: Vec<String> = env::args().skip(1).collect();
+    if words == ["--wrong"] {
+        WRONG.iter().for_each(|(name, _)| println!("{name}"));
+        return ExitCode::SUCCESS;
+    }
+    let Some(options) = options(&words) else {
+        eprintln!("usage: refused [--planted WRONG] [N [SEED]], or refused --wrong");
+        return ExitCode::from(2);
+    };
+    let mut random = Random::new(options.seed);
+    let wrong = run_refused(&options, &mut random) + run_wild(&options, &mut random);
+    let count = options.count;
+    println!("{count} refused and {count} wild calls, {wrong} wrong");
+    ExitCode::from(u8::from(wrong > 0))
+}
+
+fn options(words: &[String]) -> Option<Options> {
+    let mut call: PhaseCall = tivembo::raw::run_phase;
+    let mut rest = words;
+    if let [switch, name, more @ ..] = words {
+        if switch == "--planted" {
+            call = WRONG.iter().find(|wrong| wrong.0 == name)?.1;
+            rest = more;
+        }
+    }
+    let numbers: Option<Vec<u64>> = rest.iter().map(|word| word.parse().ok()).collect();
+    let (count, seed) = match numbers?.as_slice() {
+        [] => (1_000_000, 1),
+        [count] => (*count, 1),
+        [count, seed] => (*count, *seed),
+        _ => return None,
+    };
+    Some(Options { count, seed, call })
+}
+
+/// Each fault alone, then every pair, the greater number first; counted from 0.
+fn plans() -> Vec<Vec<usize>> {
+    let alone = (0..FAULTS.len()).map(|fault| vec![fault]);
+    let pairs = (0..FAULTS.len()).flat_map(|more| (0..more).map(move |less| vec![more, less]));
+    alone.chain(pairs).collect()
+}
+
+/// Gives the number of wrong calls.
+fn run_refused(options: &Options, random: &mut Random) -> u64 {
+    let plans = plans();
+    let mut base = legal::legal(random);
+    let (mut wrong, mut answers) = (0, [0u64; 11]);
+    for (index, plan) in (0..options.count).zip(plans.iter().cycle()) {
+        // A round of all plans begins with a new call, which must not be turned away.
+        if index % plans.len() as u64 == 0 {
+            base = legal::legal(random);
+            let answer = base.clone().call(options.call).answer;
+            wrong += tell(matches!(answer, 0 | 10), wrong, "no fault", &base, answer);
+        }
+        let mut given = base.clone();
+        plan.iter()
+            .for_each(|&fault| FAULTS[fault](&mut given, random));
+        let expected = plan.last().map_or(0, |&fault| fault as u64 + 1);
+        let before = given.clone();
+        let found = given.call(options.call);
+        let right = HostAnswer {
+            answer: expected,
+            ..HostAnswer::default()
+        };
+        let is_right = found == right && given == before && before.is_checked();
+        let what = format!("faults {plan:?}, counted from 0, expected {expected}");
+        wrong += tell(is_right, wrong, &what, &before, found.answer);
+        answers[expected as usize] += 1;
+    }
+    println!(
+        "calls with each expected answer from 1 on: {:?}",
+        &answers[1..10]
+    );
+    wrong
+}
+
+/// Gives the number of wrong calls.
+fn run_wild(options: &Options, random: &mut Random) -> u64 {
+    let (mut wrong, mut answers) = (0, [0u64; 11]);
+    for _ in 0..options.count {
+        let mut given = wild::wild(random);
+        let before = given.clone();
+        let found = given.call(options.call);
+        let is_right = is_possible(&found, &given, &before) && before.is_checked();
+        wrong += tell(is_right, wrong, "anything", &before, found.answer);
+        answers[found.answer.min(10) as usize] += 1;
+    }
+    println!("wild calls with each answer from 0 on: {answers:?}");
+    wrong
+}
+
+/// Whether a call on anything is answered as some call may be.
+fn is_possible(found: &HostAnswer, given: &Given, before: &Given) -> bool {
+    let rules = given.rules.len() as u64;
+    match found.answer {
+        0 => found.visits <= rules && found.error == 0 && given.keeps_guards_of(before),
+        1..=9 => (found.visits, found.error) == (0, 0) && given == before,
+        10 => found.visits <= rules && found.error < rules && given.keeps_guards_of(before),
+        _ => false,
+    }
+}
+
+/// Counts a wrong call, and shows the first of them.
+fn tell(is_right: bool, wrong: u64, what: &str, before: &Given, answer: u64) -> u64 {
+    if !is_right && wrong < SHOWN {
+        println!("wrong: {what}; answered {answer}");
+        println!("  phase {}, mode {}", before.phase, before.mode);
+        println!("  rules {:?}", &before.rules[..before.rules.len().min(8)]);
+    }
+    u64::from(!is_right)
+}

@@ -1,0 +1,78 @@
+//! Runs the calls of a case.
+
+use tivembo::{Phase, Refusal, RuleSet, RuleSets, Target, Transaction, MOST_RANGES};
+
+use crate::case::{Call, Case};
+
+/// What one call gave, with what it was given.
+pub struct Walked<'a> {
+    pub case: &'a Case,
+    pub call: &'a Call,
+    pub rules: &'a RuleSet,
+    pub result: Result<Phase<'a>, Refusal>,
+    /// After the call.
+    pub transaction: &'a Transaction,
+    /// Whether the request was allowed before the call.
+    pub allowed: bool,
+    /// Whether an intervention was held before the call.
+    pub held: bool,
+}
+
+impl Walked<'_> {
+    /// Where the call's texts are found.
+    pub fn texts(&self) -> RuleSets<'_> {
+        RuleSets::new().with(self.call.phase, self.rules)
+    }
+
+    /// All ranges held after the call. Where a case holds more than a transaction has places for, its calls are turned
+    /// away, and it holds them still.
+    pub fn ranges(&self) -> Vec<(u64, u64)> {
+        let entry = &self.case.entry.ranges;
+        if entry.len() > MOST_RANGES {
+            return entry.clone();
+        }
+        self.transaction.controls().ranges().collect()
+    }
+
+    /// The targets that the call added.
+    pub fn targets(&self) -> Vec<Target<'_>> {
+        let Ok(phase) = &self.result else {
+            return Vec::new();
+        };
+        let texts = self.texts();
+        let found = phase.targets().map(|place| texts.target(place));
+        found
+            .map(|found| found.expect("the call's rules have it"))
+            .collect()
+    }
+}
+
+/// Runs the calls of a case in order, and hands each to `print`.
+pub fn run_case<E>(case: &Case, mut print: impl FnMut(&Walked) -> Result<(), E>) -> Result<(), E> {
+    let mut transaction = case.entry.transaction();
+    for call in &case.calls {
+        let rules = call.rule_set();
+        let (allowed, held) = (
+            transaction.is_allowed(),
+            transaction.intervention().is_some(),
+        );
+        let outcomes = call.outcomes();
+        let result =
+            transaction.run_phase(&rules, call.phase, case.mode, case.block_status, &outcomes);
+        let result = result.map(|phase| (phase, phase.transaction()));
+        let (result, transaction) = match result {
+            Ok((phase, transaction)) => (Ok(phase), transaction),
+            Err(refusal) => (Err(refusal), &transaction),
+        };
+        print(&Walked {
+            case,
+            call,
+            rules: &rules,
+            result,
+            transaction,
+            allowed,
+            held,
+        })?;
+    }
+    Ok(())
+}

@@ -1,0 +1,254 @@
+//! Prints a walk for people to read: each rule with what happened at it, then what the call gave.
+
+use std::io::{Result, Write};
+
+use tivembo::{Act, Answer, Directive, Intervention, Phase, Refusal};
+
+use crate::case::{Entry, Rule};
+use crate::line::quoted;
+use crate::results;
+use crate::run::Walked;
+use crate::story::story;
+
+/// How wide the columns of rules and of actions are at least, and at most; longer entries push the rest of their line.
+const RULE: (usize, usize) = (11, 25);
+const ACTIONS: (usize, usize) = (42, 72);
+
+/// How many ranges are listed one by one.
+const LISTED: usize = 8;
+
+/// Prints a call's walk.
+pub fn print_call(out: &mut impl Write, walked: &Walked) -> Result<()> {
+    print_head(out, walked)?;
+    match &walked.result {
+        Ok(phase) => {
+            print_rules(out, walked, phase)?;
+            let ids = phase.ids().iter().map(u64::to_string).collect();
+            print_field(out, "ids", &or_dash(ids, " "))?;
+            let data = phase.data().map(results::data).collect();
+            print_field(out, "data", &or_dash(data, " "))?;
+        }
+        Err(refusal) => {
+            let number = refusal.number();
+            let line = format!("turned away with {number}, nothing is changed: {refusal}");
+            print_field(out, "answer", &line)?;
+        }
+    }
+    print_field(out, "controls", &controls(walked))?;
+    print_field(out, "request", &request(walked))
+}
+
+/// Prints what the directive reader said.
+pub fn print_directive(
+    out: &mut impl Write,
+    (name, value): (&[u8], &[u8]),
+    read: &std::result::Result<Directive, Refusal>,
+) -> Result<()> {
+    let said = match read {
+        Ok(_) => results::directive(read),
+        Err(refusal) => format!("turned away with {}: {refusal}", refusal.number()),
+    };
+    writeln!(out, "{}  {said}", setting(name, value))
+}
+
+/// The case, the phase, the mode, the markers, and what the first call finds.
+fn print_head(out: &mut impl Write, walked: &Walked) -> Result<()> {
+    let Walked { case, call, .. } = walked;
+    write!(
+        out,
+        "{:<3}  phase {}, mode {}",
+        case.name, call.phase, case.mode
+    )?;
+    for (name, position) in &call.markers {
+        write!(out, "; marker {} at {position}", plain(name))?;
+    }
+    let held = entry(&case.entry);
+    if std::ptr::eq(*call, &case.calls[0]) && !held.is_empty() {
+        write!(out, "; before: {}", held.join(", "))?;
+    }
+    let none = if call.rules.is_empty() {
+        "; no rules"
+    } else {
+        ""
+    };
+    writeln!(out, "{none}")
+}
+
+/// What the transaction holds before a case's first call.
+fn entry(entry: &Entry) -> Vec<String> {
+    let mode = entry.mode.map(|mode| format!("mode {mode}"));
+    let access = entry.body_access.map(results::on_off);
+    let access = access.map(|access| format!("body access {access}"));
+    let processor = entry.body_processor;
+    let processor = processor.map(|name| format!("body processor {name}"));
+    let ranges = (!entry.ranges.is_empty()).then(|| ranges(&entry.ranges));
+    let allowed = entry.allowed.then(|| "allowed".to_string());
+    let stopped = entry.stopped.then(|| "stopped".to_string());
+    let all = [mode, access, processor, ranges, allowed, stopped];
+    all.into_iter().flatten().collect()
+}
+
+fn print_rules(out: &mut impl Write, walked: &Walked, phase: &Phase) -> Result<()> {
+    let rules = &walked.call.rules;
+    let names: Vec<String> = rules.iter().map(rule_name).collect();
+    let actions: Vec<String> = rules.iter().map(rule_actions).collect();
+    let (rule, action) = (width(&names, RULE), width(&actions, ACTIONS));
+    let digits = rules.len().saturating_sub(1).to_string().len();
+    for (at, seen) in story(walked, phase).iter().enumerate() {
+        let verdict = seen.verdict.map_or("passed".to_string(), |v| v.to_string());
+        let (name, actions, words) = (&names[at], &actions[at], &seen.words);
+        let line =
+            format!("  {at:>digits$}  {name:<rule$}  {actions:<action$}  {verdict:<7}  {words}");
+        writeln!(out, "{}", line.trim_end())?;
+    }
+    Ok(())
+}
+
+fn width(entries: &[String], (least, most): (usize, usize)) -> usize {
+    let widest = entries.iter().map(String::len).max();
+    widest.unwrap_or(0).clamp(least, most)
+}
+
+fn rule_name(rule: &Rule) -> String {
+    rule.id
+        .map_or("no id".to_string(), |id| format!("rule {id}"))
+}
+
+/// A rule's actions, the id action left out where it is the rule's id.
+fn rule_actions(rule: &Rule) -> String {
+    let acts = rule.actions.iter().map(|own| own.act());
+    let told = acts.filter(|act| rule.id.is_none_or(|id| *act != Act::Id(id)));
+    let actions = told.map(|act| action(&act)).collect::<Vec<_>>().join(", ");
+    match (rule.link, actions.is_empty()) {
+        (true, false) => format!("link {actions}"),
+        (true, true) => "link".to_string(),
+        (false, _) => actions,
+    }
+}
+
+fn action(act: &Act) -> String {
+    let (_, number, text, _) = act.fields();
+    let name = act.name();
+    match *act {
+        Act::Ctl(name, value) => setting(name, value),
+        Act::Skip(_) | Act::Id(_) | Act::Status(_) => format!("{name} {number}"),
+        Act::Severity(_) | Act::Maturity(_) | Act::Accuracy(_) => format!("{name} {number}"),
+        Act::Redirect(_) | Act::SkipAfter(_) => format!("{name} {}", plain(text)),
+        Act::Msg(_) | Act::LogData(_) | Act::Rev(_) | Act::Ver(_) => {
+            format!("{name} {}", plain(text))
+        }
+        _ => name.to_string(),
+    }
+}
+
+fn setting(name: &[u8], value: &[u8]) -> String {
+    format!("{}={}", plain(name), plain(value))
+}
+
+fn print_field(out: &mut impl Write, name: &str, value: &str) -> Result<()> {
+    writeln!(out, "  {name:<8}  {value}")
+}
+
+/// The controls after the call.
+fn controls(walked: &Walked) -> String {
+    let controls = walked.transaction.controls();
+    let mode = controls.set_mode().map(|mode| format!("mode {mode}"));
+    let access = controls.set_body_access().map(results::on_off);
+    let access = access.map(|access| format!("body access {access}"));
+    let processor = controls.set_body_processor();
+    let processor = processor.map(|name| format!("body processor {name}"));
+    let held = walked.ranges();
+    let ranges = (!held.is_empty()).then(|| ranges(&held));
+    let parts = [mode, access, processor, ranges, targets(walked)];
+    or_dash(parts.into_iter().flatten().collect(), "; ")
+}
+
+/// The targets that the call added, and how many were held before.
+fn targets(walked: &Walked) -> Option<String> {
+    let added: Vec<String> = walked.targets().iter().map(results::target).collect();
+    let all = walked.transaction.record().controls.targets as usize;
+    let before = match all - added.len() {
+        0 => None,
+        1 => Some("1 target held before".to_string()),
+        before => Some(format!("{before} targets held before")),
+    };
+    let added = (!added.is_empty()).then(|| format!("targets {}", added.join(" ")));
+    let parts: Vec<String> = added.into_iter().chain(before).collect();
+    (!parts.is_empty()).then(|| parts.join(", "))
+}
+
+fn ranges(ranges: &[(u64, u64)]) -> String {
+    let listed: Vec<String> = ranges
+        .iter()
+        .take(LISTED)
+        .copied()
+        .map(results::range)
+        .collect();
+    let (word, listed) = (
+        if ranges.len() == 1 { "range" } else { "ranges" },
+        listed.join(" "),
+    );
+    match ranges.len().saturating_sub(LISTED) {
+        0 => format!("{word} {listed}"),
+        more => format!("{word} {listed} and {more} more"),
+    }
+}
+
+/// What becomes of the request.
+fn request(walked: &Walked) -> String {
+    if walked.held {
+        return "stopped before this call".to_string();
+    }
+    if walked.allowed {
+        return "allowed before this call".to_string();
+    }
+    let Ok(phase) = &walked.result else {
+        return "goes on".to_string();
+    };
+    if let Some(stop) = phase.intervention() {
+        return stopped(walked, &stop);
+    }
+    match phase.answer() {
+        Answer::RuleError(index) => format!("rule error at {index}; what was closed before stands"),
+        Answer::CarriedThrough if phase.allows() => "allowed".to_string(),
+        Answer::CarriedThrough => "goes on".to_string(),
+    }
+}
+
+fn stopped(walked: &Walked, stop: &Intervention) -> String {
+    let stop = stop
+        .with_texts(&walked.texts())
+        .expect("the call's rules have it");
+    let ids = or_dash(stop.ids().map(|id| id.to_string()).collect(), " ");
+    let mut parts = vec![format!("stopped, status {}, ids {ids}", stop.status)];
+    parts.extend(stop.drop.then(|| "connection dropped".to_string()));
+    let text = |name: &str, text: Option<&[u8]>| text.map(|text| format!("{name} {}", plain(text)));
+    let number = |name: &str, value: Option<u64>| value.map(|value| format!("{name} {value}"));
+    let metadata = &stop.metadata;
+    parts.extend(text("to", stop.url));
+    parts.extend(text("msg", metadata.msg));
+    parts.extend(text("logdata", metadata.logdata));
+    parts.extend(text("rev", metadata.rev));
+    parts.extend(text("ver", metadata.ver));
+    parts.extend(number("severity", metadata.severity));
+    parts.extend(number("maturity", metadata.maturity));
+    parts.extend(number("accuracy", metadata.accuracy));
+    parts.join(", ")
+}
+
+/// A text as it is, or in quotes where it has anything that could be mistaken.
+pub fn plain(text: &[u8]) -> String {
+    let is_plain = |byte: &u8| byte.is_ascii_graphic() && !matches!(byte, b',' | b'"' | b'\\');
+    if text.is_empty() || !text.iter().all(is_plain) {
+        return quoted(text);
+    }
+    String::from_utf8_lossy(text).into_owned()
+}
+
+fn or_dash(parts: Vec<String>, between: &str) -> String {
+    if parts.is_empty() {
+        "-".to_string()
+    } else {
+        parts.join(between)
+    }
+}

@@ -1,0 +1,195 @@
+//! What happened at each rule of a call, in words. The verdicts are the journal's; the words say what follows from them.
+
+use tivembo::{Act, Answer, Mode, Phase, Records, Verdict};
+
+use crate::results::range;
+use crate::run::Walked;
+use crate::show::plain;
+
+/// A rule's verdict, none where it was passed, and the words behind it.
+pub struct Seen {
+    pub verdict: Option<Verdict>,
+    pub words: String,
+}
+
+/// One for each rule of the call.
+pub fn story(walked: &Walked, phase: &Phase) -> Vec<Seen> {
+    let mut story = Story {
+        walked,
+        phase,
+        records: walked.rules.records(),
+        open: Vec::new(),
+        passing: why_idle(walked),
+    };
+    let mut visits = phase.visits().peekable();
+    let rules = 0..walked.call.rules.len();
+    let seen = rules.map(|index| match visits.next_if(|visit| visit.0 == index) {
+        None => story.passed(),
+        Some((_, verdict)) => {
+            let words = story.visit(index, verdict, visits.peek().is_none());
+            Seen {
+                verdict: Some(verdict),
+                words,
+            }
+        }
+    });
+    seen.collect()
+}
+
+/// Why a call without a visit had none.
+fn why_idle(walked: &Walked) -> String {
+    let why = match (walked.allowed, walked.held) {
+        (true, _) => "the request is allowed already",
+        (_, true) => "the request is stopped already",
+        _ => "mode Off",
+    };
+    why.to_string()
+}
+
+struct Story<'a> {
+    walked: &'a Walked<'a>,
+    phase: &'a Phase<'a>,
+    records: Records<'a>,
+    /// The matched links that wait for their closing rule.
+    open: Vec<usize>,
+    /// Why the rules behind the last visit are passed.
+    passing: String,
+}
+
+impl Story<'_> {
+    fn passed(&self) -> Seen {
+        Seen {
+            verdict: None,
+            words: self.passing.clone(),
+        }
+    }
+
+    /// The words of a visit; they also settle why the next rules are passed, if they are.
+    fn visit(&mut self, index: usize, verdict: Verdict, is_last: bool) -> String {
+        let link = self.walked.call.rules[index].link;
+        let words = match verdict {
+            Verdict::Missed => self.broken(index, link),
+            Verdict::Removed => self.removed(index, link),
+            Verdict::Matched if link => self.waits(index, is_last),
+            Verdict::Matched => self.closes(index, is_last),
+            Verdict::Error => "the phase ends here".to_string(),
+        };
+        if is_last {
+            self.passing = self.why_ended(index).unwrap_or(self.passing.clone());
+        }
+        words
+    }
+
+    fn broken(&mut self, index: usize, link: bool) -> String {
+        let had = !std::mem::take(&mut self.open).is_empty();
+        self.passing = format!("rest of the chain broken at {index}");
+        let words = match (had, link) {
+            (true, _) => "breaks the chain",
+            (false, true) => "a link: its chain is passed",
+            (false, false) => "",
+        };
+        words.to_string()
+    }
+
+    /// The first range that has the id was held at the visit, since ranges are only ever added at the end.
+    fn removed(&mut self, index: usize, link: bool) -> String {
+        let id = self.walked.call.rules[index].id;
+        let has = |range: &(u64, u64)| id.is_some_and(|id| range.0 <= id && id <= range.1);
+        let range = self.walked.ranges().into_iter().find(has).map(range);
+        let chain = match (link, self.open.is_empty()) {
+            (true, _) => self.broken(index, link),
+            (false, true) => String::new(),
+            (false, false) => "the chain stays open".to_string(),
+        };
+        let range = range.map(|range| format!("in range {range}"));
+        let parts = range.into_iter().chain(Some(chain));
+        let told: Vec<String> = parts.filter(|part| !part.is_empty()).collect();
+        told.join(", ")
+    }
+
+    fn waits(&mut self, index: usize, is_last: bool) -> String {
+        self.open.push(index);
+        let starter = if self.open.len() == 1 {
+            ", starter"
+        } else {
+            ""
+        };
+        let open = if is_last {
+            "; the chain stays open and gives nothing"
+        } else {
+            ""
+        };
+        format!("waits{starter}{open}")
+    }
+
+    fn closes(&mut self, index: usize, is_last: bool) -> String {
+        self.open.push(index);
+        let unit = std::mem::take(&mut self.open);
+        self.passing = self.flow(unit[0], index);
+        let members: Vec<String> = unit.iter().map(usize::to_string).collect();
+        let effect = self.effect(unit[0], is_last);
+        format!("closes unit {}{effect}", members.join(" "))
+    }
+
+    /// What the starter's last disruptive action does.
+    fn effect(&self, starter: usize, is_last: bool) -> String {
+        if is_last && self.phase.intervention().is_some() {
+            return ", stops".to_string();
+        }
+        if is_last && self.phase.allows() {
+            return ", allows".to_string();
+        }
+        match self.last(starter, 1..=6) {
+            Some(act @ (Act::Deny | Act::Block | Act::Redirect(_) | Act::Drop)) => {
+                format!(", {} does not act", act.name())
+            }
+            _ => String::new(),
+        }
+    }
+
+    /// Where the starter's last flow action goes on, behind the closing rule.
+    fn flow(&self, starter: usize, closing: usize) -> String {
+        match self.last(starter, 7..=10) {
+            Some(Act::Skip(count)) => format!("skip {count} at {closing}"),
+            Some(Act::SkipAfter(name)) => self.jump(name, closing),
+            _ => String::new(),
+        }
+    }
+
+    fn jump(&self, name: &[u8], closing: usize) -> String {
+        let behind = closing as u64 + 1;
+        let markers = self.walked.call.markers.iter().rev();
+        let name_of = plain(name);
+        match markers.into_iter().find(|marker| marker.0 == name) {
+            None => format!("no marker {name_of}: the rest is passed"),
+            Some((_, position)) if *position > behind => {
+                format!("jump to marker {name_of} at {position}")
+            }
+            Some((_, position)) => {
+                format!("no usable marker: {name_of} at {position} is not greater than {behind}")
+            }
+        }
+    }
+
+    /// A rule's last action with a kind among these.
+    fn last(&self, index: usize, kinds: std::ops::RangeInclusive<u64>) -> Option<Act<'_>> {
+        let actions = self.records.actions_of(&self.records.rules[index]);
+        actions.filter(|act| kinds.contains(&act.fields().0)).last()
+    }
+
+    /// Why the phase ended at its last visit, if that visit ended it.
+    fn why_ended(&self, index: usize) -> Option<String> {
+        let controls = self.walked.transaction.controls();
+        if self.phase.answer() != Answer::CarriedThrough {
+            return Some(format!("rule error at {index}"));
+        }
+        if self.phase.intervention().is_some() {
+            return Some(format!("stopped at {index}"));
+        }
+        if self.phase.allows() {
+            return Some(format!("allow at {index}"));
+        }
+        let off = controls.engine_mode(self.walked.case.mode) == Ok(Mode::Off);
+        off.then(|| "mode Off".to_string())
+    }
+}

@@ -1,0 +1,97 @@
+//! What directives have set, and questions to it.
+
+use crate::exported;
+use crate::records::{HostAsked, HostControls};
+use crate::values::{BodyProcessor, Mode, Place};
+use crate::Refusal;
+
+/// The controls of a transaction. The first six functions are the proved questions; they are refused only where a record
+/// was given that counts more than 256 ranges or 64 targets (3) or holds an unknown number (5). The others read the record
+/// as it is.
+#[derive(Debug, Clone, Copy)]
+pub struct Controls<'a>(pub(crate) &'a HostControls);
+
+impl<'a> Controls<'a> {
+    /// The mode in force: the one that a directive set last, else the rule set's.
+    ///
+    /// ```
+    /// use tivembo::{Mode, Transaction};
+    /// let transaction = Transaction::new();
+    /// assert_eq!(transaction.controls().engine_mode(Mode::On), Ok(Mode::On));
+    /// ```
+    pub fn engine_mode(&self, ruleset_mode: Mode) -> Result<Mode, Refusal> {
+        let number = value(exported::engine_mode(*self.0, ruleset_mode.number()))?;
+        Ok(Mode::from_number(number).expect("the contract has no other mode"))
+    }
+
+    /// Whether a rule with this id is removed. A rule without an id never is.
+    ///
+    /// ```
+    /// use tivembo::Transaction;
+    /// let mut transaction = Transaction::new();
+    /// transaction.remove_range(942_100, 942_999)?;
+    /// assert!(transaction.controls().is_rule_removed(Some(942_999))?);
+    /// assert!(!transaction.controls().is_rule_removed(Some(943_000))?);
+    /// assert!(!transaction.controls().is_rule_removed(None)?);
+    /// # Ok::<(), tivembo::Refusal>(())
+    /// ```
+    pub fn is_rule_removed(&self, id: Option<u64>) -> Result<bool, Refusal> {
+        Ok(value(exported::is_rule_removed(*self.0, id.into()))? == 1)
+    }
+
+    /// The places of the removed targets, in order. The host drops those whose variable it does not know.
+    pub fn removed_targets(&self) -> Result<Vec<Place>, Refusal> {
+        let count = value(exported::target_count(*self.0))?;
+        (0..count)
+            .filter_map(|at| self.target(at).transpose())
+            .collect()
+    }
+
+    /// The removed target at a place of the list.
+    pub fn target(&self, at: u64) -> Result<Option<Place>, Refusal> {
+        let found = exported::target_at(*self.0, at);
+        Refusal::unless(found.answer, found.target.get())
+    }
+
+    /// Whether the request body is read: on until a directive says otherwise.
+    pub fn request_body_access(&self) -> Result<bool, Refusal> {
+        Ok(value(exported::request_body_access(*self.0))? == 0)
+    }
+
+    /// The body processor that a directive has set.
+    pub fn request_body_processor(&self) -> Result<Option<BodyProcessor>, Refusal> {
+        let number = value(exported::request_body_processor(*self.0))?;
+        Ok(number.checked_sub(1).and_then(BodyProcessor::from_number))
+    }
+
+    /// The mode that a directive has set.
+    pub fn set_mode(&self) -> Option<Mode> {
+        self.0.mode.checked_sub(1).and_then(Mode::from_number)
+    }
+
+    /// Body access, where a directive has set it.
+    pub fn set_body_access(&self) -> Option<bool> {
+        match self.0.access {
+            1 => Some(true),
+            2 => Some(false),
+            _ => None,
+        }
+    }
+
+    /// The body processor, where a directive has set it.
+    pub fn set_body_processor(&self) -> Option<BodyProcessor> {
+        let number = self.0.processor.checked_sub(1)?;
+        BodyProcessor::from_number(number)
+    }
+
+    /// The removed ranges, in order; both ends of each are removed.
+    pub fn ranges(&self) -> impl Iterator<Item = (u64, u64)> + 'a {
+        let ends = self.0.ends.iter().copied();
+        let ranges = self.0.starts.iter().copied().zip(ends);
+        ranges.take(self.0.ranges as usize)
+    }
+}
+
+fn value(asked: HostAsked) -> Result<u64, Refusal> {
+    Refusal::unless(asked.answer, asked.value)
+}

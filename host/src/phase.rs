@@ -1,0 +1,137 @@
+//! What a phase call gives.
+
+use crate::intervention::Intervention;
+use crate::records::{DataRecord, HostAnswer, HostTransaction, JournalRecord};
+use crate::transaction::Transaction;
+use crate::values::{Data, Place, Verdict};
+
+/// How a phase ended that was not turned away.
+#[derive(Debug, Clone, Copy, PartialEq, Eq, Hash)]
+pub enum Answer {
+    /// 0: the phase was carried through.
+    CarriedThrough,
+    /// 10: the visited rule with this index was not removed and had the outcome [`Error`](crate::Outcome::Error). All
+    /// units that were closed before it stand.
+    RuleError(u64),
+}
+
+/// What a transaction counted before a call.
+#[derive(Debug, Clone, Copy)]
+pub(crate) struct Before {
+    ids: usize,
+    entries: usize,
+    ranges: usize,
+    targets: usize,
+    allowed: bool,
+    stopped: bool,
+}
+
+impl Before {
+    pub(crate) fn of(record: &HostTransaction) -> Self {
+        let count = |number| usize::try_from(number).unwrap_or(usize::MAX);
+        Self {
+            ids: count(record.ids),
+            entries: count(record.entries),
+            ranges: count(record.controls.ranges),
+            targets: count(record.controls.targets),
+            allowed: record.allowed == 1,
+            stopped: record.intervention.present == 1,
+        }
+    }
+}
+
+/// What one call gave: the journal, and what the call added to its transaction.
+#[derive(Debug, Clone, Copy)]
+pub struct Phase<'t> {
+    transaction: &'t Transaction,
+    answer: HostAnswer,
+    before: Before,
+}
+
+impl<'t> Phase<'t> {
+    pub(crate) fn new(transaction: &'t Transaction, answer: HostAnswer, before: Before) -> Self {
+        Self {
+            transaction,
+            answer,
+            before,
+        }
+    }
+
+    /// How it ended.
+    pub fn answer(&self) -> Answer {
+        match self.answer.answer {
+            0 => Answer::CarriedThrough,
+            _ => Answer::RuleError(self.answer.error),
+        }
+    }
+
+    /// The transaction after the call.
+    pub fn transaction(&self) -> &'t Transaction {
+        self.transaction
+    }
+
+    /// The journal: the index of each visited rule, in order, and the verdict. A rule that is not in it was passed.
+    pub fn visits(&self) -> impl Iterator<Item = (usize, Verdict)> + 't {
+        let visit = |entry: &JournalRecord| {
+            let verdict = Verdict::from_number(entry.verdict);
+            let verdict = verdict.expect("the contract has no other verdict");
+            (entry.index as usize, verdict)
+        };
+        let entries = self.transaction.journal().iter();
+        entries.take(self.answer.visits as usize).map(visit)
+    }
+
+    /// The matched ids that this call added.
+    pub fn ids(&self) -> &'t [u64] {
+        behind(self.transaction.matched_ids(), self.before.ids)
+    }
+
+    /// The data entries that this call added.
+    pub fn data(&self) -> impl Iterator<Item = Data> + 't {
+        let entries = self.transaction.data_records();
+        behind(entries, self.before.entries).iter().map(Data::from)
+    }
+
+    /// The ranges of removed ids that this call added.
+    pub fn ranges(&self) -> impl Iterator<Item = (u64, u64)> + 't {
+        self.transaction
+            .controls()
+            .ranges()
+            .skip(self.before.ranges)
+    }
+
+    /// The places of the removed targets that this call added.
+    pub fn targets(&self) -> impl Iterator<Item = Place> + 't {
+        let controls = &self.transaction.record().controls;
+        let places = controls.phases.iter().zip(&controls.positions);
+        let held = places.take(controls.targets as usize);
+        let place = |(&phase, &position): (&u64, &u64)| Place { phase, position };
+        held.skip(self.before.targets).map(place)
+    }
+
+    /// Whether this call allowed the request.
+    pub fn allows(&self) -> bool {
+        self.transaction.is_allowed() && !self.before.allowed
+    }
+
+    /// What stops the request, where this call did it.
+    pub fn intervention(&self) -> Option<Intervention> {
+        let found = self.transaction.intervention();
+        found.filter(|_| !self.before.stopped)
+    }
+}
+
+impl From<&DataRecord> for Data {
+    fn from(record: &DataRecord) -> Self {
+        Self {
+            id: (record.present == 1).then_some(record.id),
+            phase: record.phase,
+            index: record.index,
+        }
+    }
+}
+
+/// What a call added to a list.
+fn behind<T>(list: &[T], before: usize) -> &[T] {
+    list.get(before..).unwrap_or(&[])
+}

@@ -1,0 +1,276 @@
+//! The program walk: C1 to C16, results line by line, and lines that can't be read.
+
+use std::io::Write;
+use std::path::{Path, PathBuf};
+use std::process::{Command, Output, Stdio};
+
+fn cases(name: &str) -> PathBuf {
+    Path::new(env!("CARGO_MANIFEST_DIR"))
+        .join("../cases")
+        .join(name)
+}
+
+fn program() -> Command {
+    Command::new(env!("CARGO_BIN_EXE_walk"))
+}
+
+/// Runs the program with this text on its standard input.
+fn walk(words: &[&str], text: &str) -> Output {
+    let piped = || Stdio::piped();
+    let mut command = program();
+    command.args(words).arg("-");
+    command.stdin(piped()).stdout(piped()).stderr(piped());
+    let mut child = command.spawn().expect("the program starts");
+    let mut input = child.stdin.take().expect("it reads");
+    let text = text.to_string();
+    let feeder = std::thread::spawn(move || input.write_all(text.as_bytes()));
+    let output = child.wait_with_output().expect("it ends");
+    // A program that ends at a bad line does not read the rest.
+    let _ = feeder.join().expect("the text is written");
+    output
+}
+
+fn out(output: &Output) -> &str {
+    std::str::from_utf8(&output.stdout).expect("plain text")
+}
+
+/// The results without the removed visits, which the Rust does not evaluate and expectations do not have.
+fn without_removed(results: &str) -> String {
+    let keep = |line: &str| match line.strip_prefix("visits") {
+        Some(visits) => {
+            let visits = visits
+                .split(' ')
+                .filter(|visit| !visit.ends_with(":removed"));
+            format!("visits{}\n", visits.collect::<Vec<_>>().join(" "))
+        }
+        None => format!("{line}\n"),
+    };
+    results.lines().map(keep).collect()
+}
+
+#[test]
+fn c1_to_c16() {
+    let output = program()
+        .arg("--results")
+        .arg(cases("c1-c16.cases"))
+        .output();
+    let output = output.expect("the program starts");
+    assert!(output.status.success());
+    let expected = std::fs::read_to_string(cases("c1-c16.expected")).unwrap();
+    assert_eq!(without_removed(out(&output)), expected);
+}
+
+#[test]
+fn a_walk_shows_every_rule() {
+    let output = program().arg(cases("c1-c16.cases")).output();
+    let walk = String::from_utf8(output.unwrap().stdout).unwrap();
+    for line in [
+        "C8   phase 2, mode On; marker A at 1",
+        "  1  rule 31      deny                                        passed   no usable marker: A at 1 is not greater than 1",
+        "  2  rule 42                                                  removed  in range 42-42, the chain stays open",
+        "  3  rule 43                                                  matched  closes unit 1 3, stops",
+        "  request   stopped, status 403, ids 43 41",
+        "ruleRemoveById=\"1,5-4\"  unsupported",
+    ] {
+        assert!(walk.lines().any(|found| found == line), "{line}");
+    }
+}
+
+/// One call of one rule with these actions, in phase 1 with mode On.
+fn one_rule(actions: &str) -> String {
+    format!("case X\nmode On\nblock-status 403\ncall 1\nrule 5 matched-var\n{actions}end\n")
+}
+
+#[test]
+fn every_field_of_an_intervention() {
+    let actions = r#"
+        redirect "http://x/\"\\\x09"
+        msg "m"
+        logdata "l"
+        rev "r"
+        ver "v"
+        severity 1
+        maturity 2
+        accuracy 3
+        id 6
+        ctl "ruleRemoveTargetById" " 1 ; ARGS"
+    "#;
+    let output = walk(&["--results"], &one_rule(actions));
+    let results = "case X\ncall 1\nanswer 0\nvisits 0:matched\nids 5\ndata 5@0\nmode -\nbody-access -\nbody-processor -\nranges\ntargets \"1\";\"ARGS\"\nallowed no\nintervention status=302 drop=no url=\"http://x/\\\"\\\\\\x09\" log=\"m\" ids=5,6 phase=1 id=6 msg=\"m\" logdata=\"l\" rev=\"r\" ver=\"v\" severity=1 maturity=2 accuracy=3\nend\n";
+    assert_eq!(out(&output), results);
+}
+
+/// The answer lines of a text's results.
+fn answers(text: &str) -> Vec<String> {
+    let output = walk(&["--results"], text);
+    assert!(output.status.success() && output.stderr.is_empty());
+    let lines = out(&output).lines();
+    let answers = lines.filter_map(|line| line.strip_prefix("answer "));
+    answers.map(str::to_string).collect()
+}
+
+#[test]
+fn refusals_and_errors_are_answers() {
+    let head = "case X\nmode On\nblock-status 403\n";
+    let many = |line: &str, count: usize| line.repeat(count);
+    let call = |rest: &str| format!("{head}call 1\n{rest}end\n");
+    assert_eq!(answers(&format!("{head}call 6\nend\n")), ["1"]);
+    assert_eq!(answers(&call(&many("rule 1 missed\n", 513))), ["2"]);
+    let ranges = many("entry-range 1 2\n", 257);
+    assert_eq!(answers(&format!("{head}{ranges}call 1\nend\n")), ["3"]);
+    assert_eq!(answers(&one_rule("status 65536\n")), ["5"]);
+    assert_eq!(answers(&call("marker \"A\" 1\n")), ["5"]);
+    assert_eq!(answers(&one_rule("msg \"\\x80\"\n")), ["6"]);
+    let ranges = many("ctl \"ruleRemoveById\" \"1\"\n", 257);
+    assert_eq!(answers(&one_rule(&ranges)), ["8"]);
+    let targets = many("ctl \"ruleRemoveTargetById\" \"1;A\"\n", 65);
+    assert_eq!(answers(&one_rule(&targets)), ["9"]);
+    assert_eq!(answers(&call("rule 1 matched\nrule 2 error\n")), ["10 1"]);
+    assert_eq!(answers("ctl \"ruleEngine\" \"\\xFF\"\n"), ["6"]);
+}
+
+#[test]
+fn more_ranges_than_a_transaction_has_places() {
+    let ranges = "entry-range 1 2\n".repeat(257);
+    let text = format!("case X\nmode On\nblock-status 403\n{ranges}call 1\nend\n");
+    let output = walk(&["--results"], &text);
+    let held = out(&output).lines().find(|line| line.starts_with("ranges"));
+    assert_eq!(held, Some(format!("ranges{}", " 1-2".repeat(257)).as_str()));
+}
+
+#[test]
+fn calls_of_one_case_go_on_with_one_transaction() {
+    let text = "case X\nmode On\nblock-status 403\nentry-body-access Off\nentry-body-processor XML\n\
+        call 1\nrule 1 matched\nctl \"ruleRemoveById\" \"2\"\ncall 2\nrule 2 matched\nrule 3 matched\ndrop\n\
+        call 3\nrule 4 matched\nend\n";
+    let output = walk(&["--results"], text);
+    let results = out(&output);
+    assert!(results.contains("call 2\nanswer 0\nvisits 0:removed 1:matched\nids 3\ndata\n"));
+    assert!(results.contains("body-access Off\nbody-processor XML\nranges 2-2\n"));
+    assert!(results.contains("intervention status=444 drop=yes url=- log=- ids=3 phase=2 id=-"));
+    assert!(results.ends_with("allowed no\nintervention held\nend\n"));
+    let output = walk(&[], text);
+    let shown = out(&output);
+    assert!(shown.contains("request   stopped, status 444, ids 3, connection dropped\n"));
+    assert!(shown.ends_with("request   stopped before this call\n"));
+}
+
+/// What the program says of a text that it can't read, after the results of what stands before.
+#[track_caller]
+fn fails(text: &str, error: &str) {
+    for words in [&["--results"][..], &[]] {
+        let output = walk(words, text);
+        assert_eq!(output.status.code(), Some(1), "{text}");
+        let said = String::from_utf8(output.stderr).unwrap();
+        assert_eq!(said, format!("error line {error}\n"), "{text}");
+    }
+}
+
+#[test]
+fn lines_that_cannot_be_read() {
+    let head = "case X\nmode On\nblock-status 403\n";
+    fails("# x\n\ncall 1\n", "3: call begins no line outside a case");
+    fails(
+        "case a_b\n",
+        "1: a name has letters, digits, '-' and '.' only",
+    );
+    fails("case\n", "1: a word is missing at the end");
+    fails("case X\nmode on\n", "2: a mode is On, DetectionOnly or Off");
+    fails("case X\nmode On\nmode On\n", "3: a case says this once");
+    fails(
+        "case X\ncall 1\n",
+        "2: mode and block-status come before the first call",
+    );
+    fails(
+        &format!("{head}end\n"),
+        "4: a case has a mode, a block-status and a call",
+    );
+    fails(&format!("{head}call 1\n"), "4: the text ends inside a case");
+    fails(
+        &format!("{head}call 1\n  deny\n"),
+        "5: an action comes before the first rule",
+    );
+    fails(&format!("{head}call x\n"), "4: x is no number");
+    let above = "18446744073709551616";
+    let reason = format!("4: {above} is above 18446744073709551615");
+    fails(&format!("{head}call {above}\n"), &reason);
+}
+
+#[test]
+fn rules_and_texts_that_cannot_be_read() {
+    let rule = |line: &str| format!("case X\nmode On\nblock-status 403\ncall 1\nrule {line}\n");
+    let outcome = "an outcome is missed, matched, matched-var or error";
+    fails(&rule("1 maybe"), &format!("5: {outcome}"));
+    fails(&rule("1 link link"), &format!("5: {outcome}"));
+    fails(
+        &rule("1 missed x"),
+        "5: the line goes on where it should end",
+    );
+    fails(
+        &rule("1  missed"),
+        "5: one blank stands between two words, and none at the end",
+    );
+    fails(&rule("1 missed\nfly"), "6: fly begins no line of a call");
+    fails("ctl \"a\n", "1: a text ends with \"");
+    fails("ctl \"a\"\n", "1: a text is missing at the end");
+    fails("ctl a \"b\"\n", "1: a text begins with \"");
+    fails(
+        "ctl \"\\n\" \"b\"\n",
+        "1: a backslash begins \\\", \\\\ or \\xHH",
+    );
+    fails(
+        "ctl \"\\xg0\" \"b\"\n",
+        "1: \\x stands before two hexadecimal digits",
+    );
+    fails(
+        "ctl \"a\"\"b\"\n",
+        "1: a blank or the line's end follows a text",
+    );
+    fails(
+        "ctl \"a\" \"b\" \n",
+        "1: the line goes on where it should end",
+    );
+}
+
+#[test]
+fn what_stands_before_an_error_is_walked() {
+    let output = walk(&["--results"], "ctl \"ruleEngine\" \"off\"\ncase ?\n");
+    assert_eq!(out(&output), "engine Off\n");
+    let missing = program().arg("no/such/file").output().unwrap();
+    assert_eq!(missing.status.code(), Some(1));
+    assert!(missing.stderr.starts_with(b"error: no/such/file: "));
+    let usage = program().arg("--result").output().unwrap();
+    assert_eq!(usage.status.code(), Some(2));
+}
+
+/// 20,000 cases, each with its own id and outcome; a line of progress after the first 10,000.
+#[test]
+fn many_cases() {
+    let case = |n: usize| {
+        let outcome = ["missed", "matched", "matched-var", "error"][n % 4];
+        format!(
+            "case N{n}\nmode On\nblock-status 403\ncall {}\nrule {n} {outcome}\n  deny\nend\n",
+            1 + n % 5
+        )
+    };
+    let text: String = (0..20_000).map(case).collect();
+    let output = walk(&["--results"], &text);
+    assert!(output.status.success());
+    assert_eq!(output.stderr, b"10000 cases walked\n");
+    let blocks: Vec<&str> = out(&output).split_inclusive("end\n").collect();
+    assert_eq!(blocks.len(), 20_000);
+    for (n, block) in blocks.iter().enumerate() {
+        let (ids, data) = (format!(" {n}"), format!(" {n}@0"));
+        let (answer, verdict, ids, data) = match n % 4 {
+            0 => ("0", "missed", "", ""),
+            1 => ("0", "matched", ids.as_str(), ""),
+            2 => ("0", "matched", ids.as_str(), data.as_str()),
+            _ => ("10 0", "error", "", ""),
+        };
+        let call = 1 + n % 5;
+        let begin = format!(
+            "case N{n}\ncall {call}\nanswer {answer}\nvisits 0:{verdict}\nids{ids}\ndata{data}\n"
+        );
+        assert!(block.starts_with(&begin), "{block}");
+    }
+}
