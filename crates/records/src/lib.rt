@@ -16,6 +16,7 @@ use reading::ProcessorSetting;
 use reading::RuleEngineMode;
 use reading::RuleMetadata;
 ghost use mathlib.Core.Path.{_≡_};
+ghost use Rattle.reading.specs.Numbers.{modeNumber, accessNumber, processorNumber};
 ghost use Rattle.reading.specs.Numbers.{modeSettingNumber, accessSettingNumber, processorSettingNumber};
 ghost use Rattle.records.specs.Parts.{modeSetting, accessSetting, processorSetting, settingsKnown, flagOf, flagNumber, flagKnown};
 ghost use Rattle.records.specs.Parts.{numberOf, hostNumber, numberKnown, placeOf, hostPlace, placeKnown};
@@ -103,13 +104,13 @@ fn mode_setting(n: u64) -> ModeSetting
     ModeSetting::Set(RuleEngineMode::Off)
 }
 
-fn mode_number(m: RuleEngineMode) -> u64
-    ensures { λ r. ⌜ r ≡ modeSettingNumber (ModeSetting.Set m) ⌝ }
+pub fn mode_number(m: RuleEngineMode) -> u64
+    ensures { λ r. ⌜ r ≡ modeNumber m ⌝ }
 {
     match m {
-        RuleEngineMode::On => 1,
-        RuleEngineMode::DetectionOnly => 2,
-        RuleEngineMode::Off => 3,
+        RuleEngineMode::On => 0,
+        RuleEngineMode::DetectionOnly => 1,
+        RuleEngineMode::Off => 2,
     }
 }
 
@@ -118,7 +119,7 @@ fn mode_setting_number(setting: ModeSetting) -> u64
 {
     match setting {
         ModeSetting::Unset => 0,
-        ModeSetting::Set(m) => mode_number(m),
+        ModeSetting::Set(m) => 1 + mode_number(m),
     }
 }
 
@@ -134,12 +135,12 @@ fn access_setting(n: u64) -> AccessSetting
     AccessSetting::Set(BodyAccess::Off)
 }
 
-fn access_number(a: BodyAccess) -> u64
-    ensures { λ r. ⌜ r ≡ accessSettingNumber (AccessSetting.Set a) ⌝ }
+pub fn access_number(a: BodyAccess) -> u64
+    ensures { λ r. ⌜ r ≡ accessNumber a ⌝ }
 {
     match a {
-        BodyAccess::On => 1,
-        BodyAccess::Off => 2,
+        BodyAccess::On => 0,
+        BodyAccess::Off => 1,
     }
 }
 
@@ -148,7 +149,7 @@ fn access_setting_number(setting: AccessSetting) -> u64
 {
     match setting {
         AccessSetting::Unset => 0,
-        AccessSetting::Set(a) => access_number(a),
+        AccessSetting::Set(a) => 1 + access_number(a),
     }
 }
 
@@ -170,14 +171,14 @@ fn processor_setting(n: u64) -> ProcessorSetting
     ProcessorSetting::Set(BodyProcessor::Xml)
 }
 
-fn processor_number(p: BodyProcessor) -> u64
-    ensures { λ r. ⌜ r ≡ processorSettingNumber (ProcessorSetting.Set p) ⌝ }
+pub fn processor_number(p: BodyProcessor) -> u64
+    ensures { λ r. ⌜ r ≡ processorNumber p ⌝ }
 {
     match p {
-        BodyProcessor::Urlencoded => 1,
-        BodyProcessor::Multipart => 2,
-        BodyProcessor::Json => 3,
-        BodyProcessor::Xml => 4,
+        BodyProcessor::Urlencoded => 0,
+        BodyProcessor::Multipart => 1,
+        BodyProcessor::Json => 2,
+        BodyProcessor::Xml => 3,
     }
 }
 
@@ -186,7 +187,7 @@ pub fn processor_setting_number(setting: ProcessorSetting) -> u64
 {
     match setting {
         ProcessorSetting::Unset => 0,
-        ProcessorSetting::Set(p) => processor_number(p),
+        ProcessorSetting::Set(p) => 1 + processor_number(p),
     }
 }
 
