@@ -167,8 +167,8 @@ pub fn request_body_processor(c: HostControls) -> HostAsked
 
 // One range at the end. Behind 3 and an unknown number: 5 where the start is above the end, 8 where 256 are held.
 pub fn remove_range(c: HostControls, start: u64, end: u64) -> HostChanged
-    ensures { λ r. ⌜ (let range = record { start = start; end = end } in
-        HostAdded c r (addRangeAnswer (controlsIn c) range) (withRange (controlsIn c) range)) ⌝ }
+    ensures { λ r. ⌜ HostAdded c r (addRangeAnswer (controlsIn c) (record { start = start; end = end }))
+        (withRange (controlsIn c) (record { start = start; end = end })) ⌝ }
 {
     let n = refusal(c.ranges, c.targets, records::is_known_controls(c));
     if n != 0 {
@@ -188,7 +188,10 @@ pub fn remove_range(c: HostControls, start: u64, end: u64) -> HostChanged
     }
     let after = added.controls;
     let controls = records::controls_to_host(after);
-    HostChanged { answer: 0, controls }
+    HostChanged {
+        answer: 0,
+        controls,
+    }
 }
 
 // One target at the end. Behind 3 and an unknown number: 9 where 64 are held.
@@ -213,5 +216,8 @@ pub fn remove_target(c: HostControls, phase: u64, position: u64) -> HostChanged
     }
     let after = added.controls;
     let controls = records::controls_to_host(after);
-    HostChanged { answer: 0, controls }
+    HostChanged {
+        answer: 0,
+        controls,
+    }
 }
