@@ -1,15 +1,15 @@
 -- A call on a host's record: turned away, without a visit, and with one. Assumes nothing.
-use Prim.Native.Nat.{ℕ, _+_, _/_}
+use Prim.Native.Nat.{ℕ, _+_, _-_, _/_}
 use mathlib.Core.Path.{_≡_, refl, sym, ap, subst, _∙_}
 use mathlib.Core.Bool.{Bool, true, false, cond, _||_}
 use mathlib.Core.List.{List, [], _∷_}
 use native.Mathlib.Omega.{arith}
-use lib.ListN.{length}
+use lib.ListN.{length, take, drop}
 use lib.Dec.{ltb, eqb}
 use borrow.Author.Tests.{eq-eqb, ne-eqb}
 use Rattle.reading.specs.declared.Marker.{Marker}
 use Rattle.reading.specs.Records.{markerList}
-use Rattle.reading.specs.Call.{Call}
+use Rattle.reading.specs.Call.{Call, ruleCount}
 use Rattle.reading.specs.Call as reading
 use Rattle.reading.specs.Refusals.{refused1, refused2, refused3, refused4, refused5, refused6, refused7}
 use Rattle.reading.specs.Walk.{Visit}
@@ -37,6 +37,11 @@ Holds false = ⊥
 
 not-both : (b : Bool) → b ≡ true → b ≡ false → ⊥
 not-both b p q = subst Holds (sym p ∙ q) tt
+
+-- the part of a list that holds nothing
+pub no-part : (l : List ℕ) → [] ≡ take (0 - 0) (drop 0 l)
+no-part [] = refl
+no-part (x ∷ l) = refl
 
 -- the first of seven refusals, with what the markers' number adds to the second
 kept-of-seven : (one two many three four five six seven : Bool)
@@ -107,7 +112,7 @@ module _ (phase mode status : ℕ) (rules actions : List ℕ) (ms : List Marker)
 
   second : refused2 q ≡ (refused2 bare || ltb 256 (length ms))
   unfolding refused2 markerList
-  second = markers-last _ _ (ltb 256 (length ms)) _
+  second = markers-last (ltb 512 (ruleCount q)) (ltb 4096 (length (q .actions))) (ltb 256 (length ms)) (ltb 65536 (length text))
 
   four : keptOf (firstOfSeven bare) (ltb 256 (length ms)) ≡ unknownAnswer q
   unfolding unknownAnswer firstOfSeven refused1 refused3 refused4

@@ -102,7 +102,16 @@ pub fn host_phase(
             entries: entries.len() / 4,
             journal: journal.len() / 2,
         };
-        let refusal = unknown(phase, mode, rules, actions, markers.count, text, outcomes, sizes);
+        let refusal = unknown(
+            phase,
+            mode,
+            rules,
+            actions,
+            markers.count,
+            text,
+            outcomes,
+            sizes,
+        );
         let turned = HostAnswer {
             answer: refusal,
             error: 0,
