@@ -1,12 +1,26 @@
-// The directive reader as C and Rust call it: a directive's enum goes over as two numbers.
+// What C and Rust call: the directive reader, the phase call, questions to the controls and additions to them. No enum goes over,
+// and none of these asks anything of what it is lent: a number that is not known is refused.
+use asked::HostAsked;
+use asked::HostChanged;
+use asked::HostTarget;
+use handed::HostAnswer;
 use reader::DirectiveRead;
 use reading::BodyAccess;
 use reading::BodyProcessor;
 use reading::CtlDirective;
+use reading::Marker;
 use reading::RuleEngineMode;
+use records::HostControls;
+use records::HostNumber;
+use records::HostTransaction;
 ghost use mathlib.Core.Path.{_≡_};
 ghost use Rattle.reading.specs.Directive.{readerOutcome};
-ghost use Rattle.reading.specs.Numbers.{modeNumber, accessNumber, processorNumber, directiveNumber, directiveValue};
+ghost use Rattle.reading.specs.Numbers.{directiveNumber, directiveValue};
+ghost use Rattle.reading.specs.Controls.{withRange, withTarget, addRangeAnswer, addTargetAnswer};
+ghost use Rattle.records.specs.Whole.{fromHost};
+ghost use Rattle.asked.specs.Asked.{controlsIn, hostMode, hostRemoved, hostTargetCount, hostTarget, hostAccess, hostProcessor, HostAdded};
+ghost use Rattle.lent.specs.Lent.{callLent};
+ghost use Rattle.handed.specs.Handed.{HostRan};
 ghost use Rattle.host.specs.Record.{Recorded};
 
 // What the reader answers, the number of the directive's form, and its value.
@@ -15,36 +29,6 @@ pub struct ReadRecord {
     pub answer: u64,
     pub form: u64,
     pub value: u64,
-}
-
-fn mode_number(m: RuleEngineMode) -> u64
-    ensures { λ r. ⌜ r ≡ modeNumber m ⌝ }
-{
-    match m {
-        RuleEngineMode::On => 0,
-        RuleEngineMode::DetectionOnly => 1,
-        RuleEngineMode::Off => 2,
-    }
-}
-
-fn access_number(a: BodyAccess) -> u64
-    ensures { λ r. ⌜ r ≡ accessNumber a ⌝ }
-{
-    match a {
-        BodyAccess::On => 0,
-        BodyAccess::Off => 1,
-    }
-}
-
-fn processor_number(p: BodyProcessor) -> u64
-    ensures { λ r. ⌜ r ≡ processorNumber p ⌝ }
-{
-    match p {
-        BodyProcessor::Urlencoded => 0,
-        BodyProcessor::Multipart => 1,
-        BodyProcessor::Json => 2,
-        BodyProcessor::Xml => 3,
-    }
 }
 
 // The number of a directive's form.
@@ -67,11 +51,11 @@ fn value_of(d: CtlDirective) -> u64
 {
     match d {
         CtlDirective::Unsupported => 0,
-        CtlDirective::RuleEngine(m) => mode_number(m),
+        CtlDirective::RuleEngine(m) => records::mode_number(m),
         CtlDirective::RuleRemoveById(n) => n as u64,
         CtlDirective::RuleRemoveTargetById(cut) => cut as u64,
-        CtlDirective::RequestBodyAccess(a) => access_number(a),
-        CtlDirective::RequestBodyProcessor(p) => processor_number(p),
+        CtlDirective::RequestBodyAccess(a) => records::access_number(a),
+        CtlDirective::RequestBodyProcessor(p) => records::processor_number(p),
     }
 }
 
@@ -94,4 +78,106 @@ pub extern "C" fn tivembo_read_directive(
         form: form_of(d),
         value: value_of(d),
     }
+}
+
+// The phase call, on a transaction and marker records that the host lends.
+#[no_mangle]
+pub extern "C" fn tivembo_run_phase(
+    t: &mut HostTransaction,
+    phase: u64,
+    mode: u64,
+    status: u64,
+    rules: &[u64],
+    actions: &[u64],
+    markers: &[Marker],
+    text: &[u8],
+    outcomes: &[u8],
+    ids: &mut [u64],
+    entries: &mut [u64],
+    journal: &mut [u64],
+) -> HostAnswer
+    ensures { λ r. ⌜ HostRan (now (t .entry)) (callLent phase mode status (now (rules .entry)) (now (actions .entry)) (now (markers .entry)) (now (text .entry)) (now (outcomes .entry)) (fromHost (now (t .entry))) (now (ids .entry)) (now (entries .entry)) (now (journal .entry)))
+        (now (ids .entry)) (now (entries .entry)) (now (journal .entry)) r (now (t .exit)) (now (ids .exit)) (now (entries .exit)) (now (journal .exit)) ⌝ }
+{
+    let c = markers::unpack(markers);
+    let p = handed::host_phase(
+        *t,
+        phase,
+        mode,
+        status,
+        rules,
+        actions,
+        c,
+        text,
+        outcomes,
+        ids,
+        entries,
+        journal,
+    );
+    *t = p.transaction;
+    p.answer
+}
+
+// The mode set last, else the rule set's: 0 On, 1 DetectionOnly, 2 Off.
+#[no_mangle]
+pub extern "C" fn tivembo_engine_mode(c: HostControls, ruleset_mode: u64) -> HostAsked
+    ensures { λ r. ⌜ r ≡ hostMode c «ruleset_mode» ⌝ }
+{
+    asked::engine_mode(c, ruleset_mode)
+}
+
+// Whether a rule of this id, or of none, is removed: 1 or 0.
+#[no_mangle]
+pub extern "C" fn tivembo_is_rule_removed(c: HostControls, id: HostNumber) -> HostAsked
+    ensures { λ r. ⌜ r ≡ hostRemoved c id ⌝ }
+{
+    asked::is_rule_removed(c, id)
+}
+
+#[no_mangle]
+pub extern "C" fn tivembo_target_count(c: HostControls) -> HostAsked
+    ensures { λ r. ⌜ r ≡ hostTargetCount c ⌝ }
+{
+    asked::target_count(c)
+}
+
+// The target at a place of the list, counted from 0, or none behind its end.
+#[no_mangle]
+pub extern "C" fn tivembo_target_at(c: HostControls, at: u64) -> HostTarget
+    ensures { λ r. ⌜ r ≡ hostTarget c at ⌝ }
+{
+    asked::target_at(c, at)
+}
+
+// 0 On, 1 Off.
+#[no_mangle]
+pub extern "C" fn tivembo_request_body_access(c: HostControls) -> HostAsked
+    ensures { λ r. ⌜ r ≡ hostAccess c ⌝ }
+{
+    asked::request_body_access(c)
+}
+
+// 0 where none is set, 1 URLENCODED, 2 MULTIPART, 3 JSON, 4 XML.
+#[no_mangle]
+pub extern "C" fn tivembo_request_body_processor(c: HostControls) -> HostAsked
+    ensures { λ r. ⌜ r ≡ hostProcessor c ⌝ }
+{
+    asked::request_body_processor(c)
+}
+
+// One range at the end.
+#[no_mangle]
+pub extern "C" fn tivembo_remove_range(c: HostControls, start: u64, end: u64) -> HostChanged
+    ensures { λ r. ⌜ HostAdded c r (addRangeAnswer (controlsIn c) (record { start = start; end = end }))
+        (withRange (controlsIn c) (record { start = start; end = end })) ⌝ }
+{
+    asked::remove_range(c, start, end)
+}
+
+// One target at the end.
+#[no_mangle]
+pub extern "C" fn tivembo_remove_target(c: HostControls, phase: u64, position: u64) -> HostChanged
+    ensures { λ r. ⌜ HostAdded c r (addTargetAnswer (controlsIn c)) (withTarget (controlsIn c) (record { phase = phase; position = position })) ⌝ }
+{
+    asked::remove_target(c, phase, position)
 }

@@ -79,6 +79,7 @@ pub enum CtlDirective {
 }
 
 // A part of a lent text.
+#[repr(C)]
 pub struct Part {
     pub start: u64,
     pub len: u64,
@@ -114,6 +115,7 @@ pub struct Action {
 }
 
 // A marker's record: its name, and the number of the phase's rules before it.
+#[repr(C)]
 pub struct Marker {
     pub name: Part,
     pub position: u64,

@@ -1,0 +1,43 @@
+-- `asked::remove_target` meets its contract.
+use Rattle.reading.specs.Controls.{addTargetAnswer, withTarget}
+use Rattle.asked.proofs.Answers.{turned, not-added, added}
+use borrow.Author.Needs.{needs}
+use Rattle.asked.proofs.remove_target.Statement.{statement}
+use Rattle.asked.proofs.remove_target.Tie as tie
+
+is-known-controls-requires : tie.Need-is-known-controls-requires
+is-known-controls-requires c κs = search needs
+
+refusal-requires : tie.Need-refusal-requires
+refusal-requires c κs = search needs
+
+returns : tie.Need-returns
+returns c = turned (c .before .before .before .args .c) _ (c .before .before .is-known-controls .ensures) _ (c .before .refusal .ensures) _ _ (c .if1 .taken)
+
+controls-from-host-requires : tie.Need-controls-from-host-requires
+controls-from-host-requires c κs = search needs
+
+remove-target-requires : tie.Need-remove-target-requires
+remove-target-requires c κs = search needs
+
+returns-2 : tie.Need-returns-2
+returns-2 c = not-added (c .before .before .before .before .before .before .args .c) _ (c .before .before .before .before .before .is-known-controls .ensures) _ (c .before .before .before .before .refusal .ensures) (λ x. addTargetAnswer x) (λ x. withTarget x (record { phase = c .before .before .before .before .before .before .args .phase; position = c .before .before .before .before .before .before .args .position })) (c .before .before .before .if1 .left) _ (c .before .before .controls-from-host .ensures) _ (c .before .remove-target .ensures) (c .if2 .taken)
+
+controls-to-host-requires : tie.Need-controls-to-host-requires
+controls-to-host-requires c κs = search needs
+
+returns-3 : tie.Need-returns-3
+returns-3 c = added (c .before .before .before .before .before .before .before .before .args .c) _ (c .before .before .before .before .before .before .before .is-known-controls .ensures) _ (c .before .before .before .before .before .before .refusal .ensures) (λ x. addTargetAnswer x) (λ x. withTarget x (record { phase = c .before .before .before .before .before .before .before .before .args .phase; position = c .before .before .before .before .before .before .before .before .args .position })) (c .before .before .before .before .before .if1 .left) _ (c .before .before .before .before .controls-from-host .ensures) _ (c .before .before .before .remove-target .ensures) _ (c .before .before .if2 .left) (c .controls-to-host .ensures)
+
+pub remove-target-spec : {M : Type 1} → statement M
+remove-target-spec =
+    tie.close
+    (tie.spec
+    is-known-controls-requires
+    refusal-requires
+    returns
+    controls-from-host-requires
+    remove-target-requires
+    returns-2
+    controls-to-host-requires
+    returns-3)

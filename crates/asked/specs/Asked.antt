@@ -1,0 +1,61 @@
+-- What a host is answered that asks its controls a question, or adds a range or a target to them.
+use Prim.Native.Nat.{ℕ}
+use mathlib.Core.Path.{_≡_}
+use mathlib.Core.Bool.{Bool, cond, _&&_}
+use lib.Dec.{eqb, ltb}
+use Rattle.reading.specs.declared.OptionPlace.{OptionPlace}
+use Rattle.reading.specs.Numbers.{modeNumbered, modeNumber, accessNumber, processorSettingNumber}
+use Rattle.reading.specs.Controls.{Asked, beyondLimits, askMode, askRemoved, askTargetCount, askTarget, askAccess, askProcessor}
+use Rattle.reading.specs.Controls as reading
+use Rattle.control.specs.Held.{controlsOf, Became}
+use Rattle.records.specs.declared.HostControls.{HostControls}
+use Rattle.records.specs.declared.HostNumber.{HostNumber}
+use Rattle.records.specs.declared.HostPlace.{HostPlace}
+use Rattle.records.specs.Parts.{numberKnown, numberOf, flagNumber, hostPlace}
+use Rattle.records.specs.Whole.{knownControls, controlsFromHost, controlsToHost}
+use Rattle.asked.specs.declared.HostAsked.{HostAsked}
+use Rattle.asked.specs.declared.HostTarget.{HostTarget}
+use Rattle.asked.specs.declared.HostChanged.{HostChanged}
+
+-- the controls that a host's record stands for
+abbrev pub controlsIn : HostControls → reading.Controls
+controlsIn c = controlsOf (controlsFromHost c)
+
+-- 01: "Questions to the controls give only 3". A host's record may hold a number that is not known: then 5, behind 3 as everywhere
+unfoldable pub refusalIn : HostControls → Bool → ℕ
+refusalIn c known = cond (beyondLimits (controlsIn c)) 3 (cond known 0 5)
+
+-- the answer to a question: the refusal and 0, or 0 and the number of the value that the question gives
+abbrev pub answered : {A : Type 0} → ℕ → (A → ℕ) → Asked A → HostAsked
+answered refusal number q = record { answer = refusal; value = cond (eqb refusal 0) (number (q .value)) 0 }
+
+-- "1. .. the rule set's mode is not 0 (On), 1 (DetectionOnly) or 2 (Off)."
+unfoldable pub hostMode : HostControls → ℕ → HostAsked
+hostMode c mode =
+    answered (cond (ltb 2 mode) 1 (refusalIn c (knownControls c))) modeNumber (askMode (modeNumbered mode) (controlsIn c))
+
+unfoldable pub hostRemoved : HostControls → HostNumber → HostAsked
+hostRemoved c id = answered (refusalIn c (knownControls c && numberKnown id)) flagNumber (askRemoved (controlsIn c) (numberOf id))
+
+unfoldable pub hostTargetCount : HostControls → HostAsked
+hostTargetCount c = answered (refusalIn c (knownControls c)) (λ n. n) (askTargetCount (controlsIn c))
+
+unfoldable pub hostTarget : HostControls → ℕ → HostTarget
+hostTarget c at =
+    let refusal = refusalIn c (knownControls c) in
+    record { answer = refusal; target = hostPlace (cond (eqb refusal 0) (askTarget (controlsIn c) at .value) OptionPlace.None) }
+
+unfoldable pub hostAccess : HostControls → HostAsked
+hostAccess c = answered (refusalIn c (knownControls c)) accessNumber (askAccess (controlsIn c))
+
+unfoldable pub hostProcessor : HostControls → HostAsked
+hostProcessor c = answered (refusalIn c (knownControls c)) processorSettingNumber (askProcessor (controlsIn c))
+
+-- An addition that answers `answer` and makes of the controls `after`. Refused by a number that is not known, behind 3, the
+-- answer is 5. Where the answer is 0 the controls are changed as by the addition, and each number of the record is the one that
+-- stands for them; else the record is as lent.
+pub record HostAdded (before : HostControls) (r : HostChanged) (answer : ℕ) (after : reading.Controls) : Type 0 where
+  pub answer-is : r .answer ≡ cond (eqb (refusalIn before (knownControls before)) 0) answer (refusalIn before (knownControls before))
+  pub became : r .answer ≡ 0 → Became (controlsFromHost before) (controlsFromHost (r .controls)) after
+  pub numbers : r .answer ≡ 0 → r .controls ≡ controlsToHost (controlsFromHost (r .controls))
+  pub refused : (r .answer ≡ 0 → ⊥) → r .controls ≡ before

@@ -1,0 +1,225 @@
+-- A call on a host's record: turned away, without a visit, and with one. Assumes nothing.
+use Prim.Native.Nat.{ℕ, _+_, _-_, _/_}
+use mathlib.Core.Path.{_≡_, refl, sym, ap, subst, _∙_}
+use mathlib.Core.Bool.{Bool, true, false, cond, _||_}
+use mathlib.Core.List.{List, [], _∷_}
+use native.Mathlib.Omega.{arith}
+use lib.ListN.{length, take, drop}
+use lib.Dec.{ltb, eqb}
+use borrow.Author.Tests.{eq-eqb, ne-eqb}
+use Rattle.reading.specs.declared.Marker.{Marker}
+use Rattle.reading.specs.Records.{markerList}
+use Rattle.reading.specs.Call.{Call, ruleCount}
+use Rattle.reading.specs.Call as reading
+use Rattle.reading.specs.Refusals.{refused1, refused2, refused3, refused4, refused5, refused6, refused7}
+use Rattle.reading.specs.Walk.{Visit}
+use Rattle.reading.specs.Outcome.{Outcome, visitsOf, outcomeOf, transactionAfter}
+use Rattle.reading.specs.Demand3.{Demand3}
+use Rattle.control.specs.Held.{Became}
+use Rattle.control.proofs.HeldLaws.{ranges-length, targets-length}
+use Rattle.refusals.specs.declared.Sizes.{Sizes}
+use Rattle.refusals.specs.Lent.{Lent, firstOfSeven}
+use Rattle.phase.specs.declared.Transaction.{Transaction}
+use Rattle.phase.specs.Phase.{transactionOf, callOf, outcomeFound, Ran}
+use Rattle.phase.proofs.Promise.{length-data-list, length-journal-list}
+use Rattle.records.specs.declared.HostTransaction.{HostTransaction}
+use Rattle.records.specs.Whole.{controlsFromHost, known, fromHost, toHost}
+use Rattle.records.proofs.Back.{back}
+use Rattle.lent.specs.declared.Answer.{Answer}
+use Rattle.lent.specs.Lent.{callLent, phaseOf}
+use Rattle.handed.specs.declared.HostAnswer.{HostAnswer}
+use Rattle.handed.specs.Handed.{phaseFound, unknownAnswer, TurnedAway, HostRan, keptOf}
+
+-- a test that is true is not false
+abbrev Holds : Bool → Type 0
+Holds true = Unit {0}
+Holds false = ⊥
+
+not-both : (b : Bool) → b ≡ true → b ≡ false → ⊥
+not-both b p q = subst Holds (sym p ∙ q) tt
+
+-- the part of a list that holds nothing
+pub no-part : (l : List ℕ) → [] ≡ take (0 - 0) (drop 0 l)
+no-part [] = refl
+no-part (x ∷ l) = refl
+
+-- the first of seven refusals, with what the markers' number adds to the second
+kept-of-seven : (one two many three four five six seven : Bool)
+    → keptOf (cond one 1 (cond two 2 (cond three 3 (cond four 4 (cond five 5 (cond six 6 (cond seven 7 0))))))) many
+    ≡ cond one 1 (cond (two || many) 2 (cond three 3 (cond four 4 5)))
+kept-of-seven true two many three four five six seven = refl
+kept-of-seven false true true three four five six seven = refl
+kept-of-seven false true false three four five six seven = refl
+kept-of-seven false false true true four five six seven = refl
+kept-of-seven false false true false true five six seven = refl
+kept-of-seven false false true false false true six seven = refl
+kept-of-seven false false true false false false true seven = refl
+kept-of-seven false false true false false false false true = refl
+kept-of-seven false false true false false false false false = refl
+kept-of-seven false false false true four five six seven = refl
+kept-of-seven false false false false true five six seven = refl
+kept-of-seven false false false false false true six seven = refl
+kept-of-seven false false false false false false true seven = refl
+kept-of-seven false false false false false false false true = refl
+kept-of-seven false false false false false false false false = refl
+
+markers-last : (rules actions markers text : Bool) → (rules || actions || markers || text) ≡ ((rules || actions || false || text) || markers)
+markers-last true actions markers text = refl
+markers-last false true markers text = refl
+markers-last false false true true = refl
+markers-last false false true false = refl
+markers-last false false false true = refl
+markers-last false false false false = refl
+
+module _ (phase mode status : ℕ) (rules actions : List ℕ) (ms : List Marker) (text outcomes : List ℕ) (h : HostTransaction)
+    (ids entries journal : List ℕ) where
+  abbrev q : Call
+  q = callLent phase mode status rules actions ms text outcomes (fromHost h) ids entries journal
+
+  -- the call without its markers
+  abbrev bare : Call
+  bare = callOf phase mode status rules actions [] text outcomes (fromHost h) ids entries journal
+
+  abbrev sizesOf : Sizes
+  sizesOf = record {
+    ranges = h .controls .ranges;
+    targets = h .controls .targets;
+    «ids_used» = h .ids;
+    «entries_used» = h .entries;
+    ids = length ids;
+    entries = length entries / 4;
+    journal = length journal / 2;
+  }
+
+  bare-lent : Lent bare phase mode rules actions [] text outcomes sizesOf
+  unfolding fromHost controlsFromHost
+  bare-lent = record {
+    phase-is = refl;
+    mode-is = refl;
+    rules-are = refl;
+    actions-are = refl;
+    markers-are = refl;
+    text-is = refl;
+    outcomes-are = refl;
+    ranges = ranges-length (controlsFromHost (h .controls));
+    targets = targets-length (controlsFromHost (h .controls));
+    ids-used = refl;
+    entries-used = refl;
+    ids = refl;
+    entries = length-data-list entries;
+    journal = length-journal-list journal;
+  }
+
+  second : refused2 q ≡ (refused2 bare || ltb 256 (length ms))
+  unfolding refused2 markerList
+  second = markers-last (ltb 512 (ruleCount q)) (ltb 4096 (length (q .actions))) (ltb 256 (length ms)) (ltb 65536 (length text))
+
+  four : keptOf (firstOfSeven bare) (ltb 256 (length ms)) ≡ unknownAnswer q
+  unfolding unknownAnswer firstOfSeven refused1 refused3 refused4
+  four =
+      kept-of-seven (refused1 bare) (refused2 bare) (ltb 256 (length ms)) (refused3 bare) (refused4 bare) (refused5 bare)
+      (refused6 bare) (refused7 bare)
+      ∙ ap (λ (b : Bool). cond (refused1 q) 1 (cond b 2 (cond (refused3 q) 3 (cond (refused4 q) 4 5)))) (sym second)
+
+  -- n is what `unknown` gave, of so many markers
+  pub turned : (count n : ℕ) → count ≡ length ms → known h ≡ false
+      → ((p : Call) → Lent p phase mode rules actions [] text outcomes sizesOf → n ≡ keptOf (firstOfSeven p) (ltb 256 count))
+      → HostRan h q ids entries journal (record { answer = n; error = 0; visits = 0 }) h ids entries journal
+  turned count n e k is =
+      let m : n ≡ unknownAnswer q
+      = is bare bare-lent ∙ (ap (λ (i : ℕ). keptOf (firstOfSeven bare) (ltb 256 i)) e ∙ four) in
+      record {
+        ran = λ y. absurd (not-both (known h) y k);
+        record-is = λ y. absurd (not-both (known h) y k);
+        turned-away = λ _. record {
+          answer = λ i. record { answer = m i; error = 0; visits = 0 };
+          transaction = refl;
+          ids-are = refl;
+          entries-are = refl;
+          journal-is = refl;
+        };
+      }
+
+-- a call without a visit leaves the transaction
+no-entries : {A : Type 0} (l : List A) → length l ≡ 0 → l ≡ []
+no-entries [] e = refl
+no-entries (x ∷ l) e = absurd (omega (arith, e))
+
+or-none : (b : Bool) → (b || false) ≡ b
+or-none true = refl
+or-none false = refl
+
+plus-none : (n : ℕ) → n + 0 ≡ n
+plus-none n = omega arith
+
+kept-transaction : (p : Call) → outcomeOf p .visits ≡ 0 → p .transaction ≡ outcomeOf p .transaction
+unfolding outcomeOf
+kept-transaction p e =
+    (λ i. record {
+      controls = p .transaction .controls;
+      allowed = sym (or-none (p .transaction .allowed)) i;
+      intervention = p .transaction .intervention;
+      ids = sym (plus-none (p .transaction .ids)) i;
+      data-entries = sym (plus-none (p .transaction .data-entries)) i;
+    })
+    ∙ ap (λ (vs : List Visit). transactionAfter p vs) (sym (no-entries (visitsOf p) e))
+
+module _ (p : Call) (t u : Transaction) (is : p .transaction ≡ transactionOf t) (entries journal ids′ entries′ journal′ : List ℕ) (a : Answer)
+    (ran : Ran p t entries journal (phaseOf a u) ids′ entries′ journal′) (none : a .visits ≡ 0) where
+  same : transactionOf t ≡ outcomeOf p .transaction
+  same = sym is ∙ kept-transaction p (ap (λ (o : Outcome). o .visits) (sym (ran .outcome)) ∙ none)
+
+  found : outcomeFound (phaseOf a t) ids′ entries′ journal′ ≡ outcomeOf p
+  found = λ i. record {
+    answer = ran .outcome i .answer;
+    error = ran .outcome i .error;
+    visits = ran .outcome i .visits;
+    journal = ran .outcome i .journal;
+    ids = ran .outcome i .ids;
+    data-entries = ran .outcome i .data-entries;
+    transaction = same i;
+  }
+
+  ran-unvisited : Ran p t entries journal (phaseOf a t) ids′ entries′ journal′
+  ran-unvisited = record {
+    outcome = found;
+    journal-numbers = ran .journal-numbers;
+    data-numbers = ran .data-numbers;
+    controls = record {
+      meaning = ap (λ (x : reading.Transaction). x .controls) same;
+      starts = refl;
+      ends = refl;
+      phases = refl;
+      positions = refl;
+    };
+    refused = λ _. refl;
+    demand3 = subst (λ (o : Outcome). Demand3 p o) (ran .outcome ∙ sym found) (ran .demand3);
+  }
+
+-- what `run_unpacked` gave, of the transaction t that the record stands for
+module _ (h : HostTransaction) (t : Transaction) (is : t ≡ fromHost h) (callWith : Transaction → Call)
+    (holds : (x : Transaction) → callWith x .transaction ≡ transactionOf x)
+    (ids entries journal ids′ entries′ journal′ : List ℕ) (a : Answer) (u : Transaction) (k : known h ≡ true)
+    (ran : Ran (callWith t) t entries journal (phaseOf a u) ids′ entries′ journal′) where
+  abbrev host : HostAnswer
+  host = record { answer = a .answer; error = a .error; visits = a .visits }
+
+  here : Ran (callWith (fromHost h)) (fromHost h) entries journal (phaseOf a u) ids′ entries′ journal′
+  here = subst (λ (x : Transaction). Ran (callWith x) x entries journal (phaseOf a u) ids′ entries′ journal′) is ran
+
+  pub unvisited : a .visits ≡ 0 → HostRan h (callWith (fromHost h)) ids entries journal host h ids′ entries′ journal′
+  unvisited z = record {
+    ran = λ _. ran-unvisited (callWith (fromHost h)) (fromHost h) u (holds (fromHost h)) entries journal ids′ entries′ journal′ a here z;
+    record-is = λ _. rw (eq-eqb (a .visits) 0 z);
+    turned-away = λ y. absurd (not-both (known h) k y);
+  }
+
+  pub visited : (h′ : HostTransaction) → (a .visits ≡ 0 → ⊥) → h′ ≡ toHost u
+      → HostRan h (callWith (fromHost h)) ids entries journal host h′ ids′ entries′ journal′
+  visited h′ z e =
+      let from : u ≡ fromHost h′ = sym (back u) ∙ ap fromHost (sym e) in
+      record {
+        ran = λ _. subst (λ (x : Transaction). Ran (callWith (fromHost h)) (fromHost h) entries journal (phaseOf a x) ids′ entries′ journal′) from here;
+        record-is = λ _. rw (ne-eqb (a .visits) 0 z) (e ∙ ap toHost from);
+        turned-away = λ y. absurd (not-both (known h) k y);
+      }

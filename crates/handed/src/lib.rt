@@ -1,0 +1,158 @@
+// The phase call on a host's record, by value. A record with a number that is not known is turned away as it is.
+use markers::Unpacked;
+use records::HostTransaction;
+use refusals::Sizes;
+ghost use mathlib.Core.Path.{_≡_};
+ghost use mathlib.Core.List.{List, []};
+ghost use lib.Dec.{ltb};
+ghost use Rattle.reading.specs.declared.Marker.{Marker};
+ghost use Rattle.reading.specs.Call.{Call};
+ghost use Rattle.refusals.specs.Lent.{Lent, firstOfSeven};
+ghost use Rattle.markers.specs.Unpacked.{unpackedOf};
+ghost use Rattle.records.specs.Whole.{fromHost};
+ghost use Rattle.lent.specs.Lent.{callLent};
+ghost use Rattle.handed.specs.Handed.{keptOf, HostRan};
+
+// 0, 10, or the number of a refusal; the index of the rule that had the error, with 10; and how many entries the journal holds.
+#[repr(C)]
+pub struct HostAnswer {
+    pub answer: u64,
+    pub error: u64,
+    pub visits: u64,
+}
+
+// The answer, and the record after the call.
+pub struct HostHanded {
+    pub answer: HostAnswer,
+    pub transaction: HostTransaction,
+}
+
+// Refusals 1 to 4 stay, in their order, and 5 stands for all behind them.
+fn kept(refusal: u64, many: bool) -> u64
+    ensures { λ r. ⌜ r ≡ keptOf refusal many ⌝ }
+{
+    if refusal == 1 {
+        return 1;
+    }
+    if many {
+        return 2;
+    }
+    if refusal < 2 {
+        return 5;
+    }
+    if 4 < refusal {
+        return 5;
+    }
+    refusal
+}
+
+// The answer to a record with a number that is not known. Too many markers are counted and not looked at.
+fn unknown(
+    phase: u64,
+    mode: u64,
+    rules: &[u64],
+    actions: &[u64],
+    markers: usize,
+    text: &[u8],
+    outcomes: &[u8],
+    sizes: Sizes,
+) -> u64
+    ensures { λ r. ⌜ ((q : Call) → Lent q phase mode (now (rules .entry)) (now (actions .entry)) [] (now (text .entry)) (now (outcomes .entry)) sizes
+        → r ≡ keptOf (firstOfSeven q) (ltb 256 markers)) ⌝ }
+{
+    let n = refusals::first_refusal(
+        phase,
+        mode,
+        rules,
+        actions,
+        &rules[0..0],
+        text,
+        outcomes,
+        sizes,
+    );
+    kept(n, 256 < markers)
+}
+
+// The phase call. Without a visit the record is handed back as it came.
+pub fn host_phase(
+    h: HostTransaction,
+    phase: u64,
+    mode: u64,
+    status: u64,
+    rules: &[u64],
+    actions: &[u64],
+    markers: Unpacked,
+    text: &[u8],
+    outcomes: &[u8],
+    ids: &mut [u64],
+    entries: &mut [u64],
+    journal: &mut [u64],
+) -> HostHanded
+    ensures { λ r. ⌜ ((ms : List Marker) → markers ≡ unpackedOf ms
+        → HostRan h (callLent phase mode status (now (rules .entry)) (now (actions .entry)) ms (now (text .entry)) (now (outcomes .entry)) (fromHost h) (now (ids .entry)) (now (entries .entry)) (now (journal .entry)))
+        (now (ids .entry)) (now (entries .entry)) (now (journal .entry)) (r .answer) (r .transaction) (now (ids .exit)) (now (entries .exit)) (now (journal .exit))) ⌝ }
+{
+    if !records::is_known(h) {
+        let sizes = Sizes {
+            ranges: h.controls.ranges as usize,
+            targets: h.controls.targets as usize,
+            ids_used: h.ids as usize,
+            entries_used: h.entries as usize,
+            ids: ids.len(),
+            entries: entries.len() / 4,
+            journal: journal.len() / 2,
+        };
+        let refusal = unknown(
+            phase,
+            mode,
+            rules,
+            actions,
+            markers.count,
+            text,
+            outcomes,
+            sizes,
+        );
+        let turned = HostAnswer {
+            answer: refusal,
+            error: 0,
+            visits: 0,
+        };
+        return HostHanded {
+            answer: turned,
+            transaction: h,
+        };
+    }
+    let t = records::from_host(h);
+    let p = lent::run_unpacked(
+        t,
+        phase,
+        mode,
+        status,
+        rules,
+        actions,
+        markers,
+        text,
+        outcomes,
+        ids,
+        entries,
+        journal,
+    );
+    let a = p.answer;
+    let answer = HostAnswer {
+        answer: a.answer,
+        error: a.error,
+        visits: a.visits as u64,
+    };
+    if a.visits == 0 {
+        return HostHanded {
+            answer,
+            transaction: h,
+        };
+    }
+    let after = p.transaction;
+    let transaction = records::to_host(after);
+    HostHanded {
+        answer,
+        transaction,
+    }
+}

@@ -1,0 +1,118 @@
+// The phase call as a host makes it: the transaction is lent by `&mut`, and the markers are lent as a list of records.
+use markers::Unpacked;
+use phase::Transaction;
+use reading::Marker;
+ghost use mathlib.Core.Path.{_≡_};
+ghost use mathlib.Core.List.{List};
+ghost use Rattle.reading.specs.declared.Marker.{Marker as MarkerRecord};
+ghost use Rattle.markers.specs.Unpacked.{unpackedOf};
+ghost use Rattle.phase.specs.Phase.{Ran};
+ghost use Rattle.lent.specs.Lent.{callLent, phaseOf, lentWords};
+
+// What a phase call answers, without the transaction: 0, 10, or the number of a refusal; the index of the rule that had the
+// error, with 10; and how many entries the journal holds.
+pub struct Answer {
+    pub answer: u64,
+    pub error: u64,
+    pub visits: usize,
+}
+
+// The answer, and the transaction after the call.
+pub struct Handed {
+    pub answer: Answer,
+    pub transaction: Transaction,
+}
+
+// How many numbers stand for so many markers.
+fn word_count(count: usize) -> usize
+    ensures { λ r. ⌜ r ≡ lentWords count ⌝ }
+{
+    if 257 < count {
+        return 771;
+    }
+    3 * count
+}
+
+// The phase call by value, on unpacked markers. A list of more than 257 markers is cut off there: that is still more than a call
+// takes, and the call answers as for the whole list.
+pub fn run_unpacked(
+    t: Transaction,
+    phase: u64,
+    mode: u64,
+    status: u64,
+    rules: &[u64],
+    actions: &[u64],
+    markers: Unpacked,
+    text: &[u8],
+    outcomes: &[u8],
+    ids: &mut [u64],
+    entries: &mut [u64],
+    journal: &mut [u64],
+) -> Handed
+    ensures { λ r. ⌜ ((ms : List MarkerRecord) → markers ≡ unpackedOf ms
+        → Ran (callLent phase mode status (now (rules .entry)) (now (actions .entry)) ms (now (text .entry)) (now (outcomes .entry)) t (now (ids .entry)) (now (entries .entry)) (now (journal .entry)))
+        t (now (entries .entry)) (now (journal .entry)) (phaseOf (r .answer) (r .transaction)) (now (ids .exit)) (now (entries .exit)) (now (journal .exit))) ⌝ }
+{
+    let words = markers.words;
+    let n = word_count(markers.count);
+    let p = transaction::run_phase(
+        t,
+        phase,
+        mode,
+        status,
+        rules,
+        actions,
+        &words[0..n],
+        text,
+        outcomes,
+        ids,
+        entries,
+        journal,
+    );
+    let transaction = p.transaction;
+    Handed {
+        answer: Answer {
+            answer: p.answer,
+            error: p.error,
+            visits: p.visits,
+        },
+        transaction,
+    }
+}
+
+// The phase call on what the host lends.
+pub fn run_phase(
+    t: &mut Transaction,
+    phase: u64,
+    mode: u64,
+    status: u64,
+    rules: &[u64],
+    actions: &[u64],
+    markers: &[Marker],
+    text: &[u8],
+    outcomes: &[u8],
+    ids: &mut [u64],
+    entries: &mut [u64],
+    journal: &mut [u64],
+) -> Answer
+    ensures { λ r. ⌜ Ran (callLent phase mode status (now (rules .entry)) (now (actions .entry)) (now (markers .entry)) (now (text .entry)) (now (outcomes .entry)) (now (t .entry)) (now (ids .entry)) (now (entries .entry)) (now (journal .entry)))
+        (now (t .entry)) (now (entries .entry)) (now (journal .entry)) (phaseOf r (now (t .exit))) (now (ids .exit)) (now (entries .exit)) (now (journal .exit)) ⌝ }
+{
+    let c = markers::unpack(markers);
+    let p = run_unpacked(
+        *t,
+        phase,
+        mode,
+        status,
+        rules,
+        actions,
+        c,
+        text,
+        outcomes,
+        ids,
+        entries,
+        journal,
+    );
+    *t = p.transaction;
+    p.answer
+}

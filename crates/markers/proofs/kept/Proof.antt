@@ -1,0 +1,16 @@
+-- `markers::kept` meets its contract: each `return` rewrites with the test. Assumes nothing.
+use borrow.Author.Tests.{lt-ltb, le-ltb}
+use borrow.Author.Needs.{needs}
+use Rattle.markers.proofs.kept.Statement.{statement}
+use Rattle.markers.proofs.kept.Tie as tie
+use Rattle.markers.proofs.kept.Reads as reads
+use Rattle.markers.proofs.kept.Lts as lts
+
+returns : tie.Need-returns
+returns c = simp (lt-ltb _ _ (c .if1 .taken))
+
+returns-2 : tie.Need-returns-2
+returns-2 c = simp (le-ltb _ _ (c .if1 .left))
+
+pub kept-spec : {M : Type 1} → statement M
+kept-spec = tie.close (tie.spec returns returns-2)

@@ -1,0 +1,14 @@
+-- `markers::zeros` meets its contract. Assumes nothing.
+use borrow.Author.Needs.{needs}
+use Rattle.markers.specs.Unpacked.{wordsOf}
+use Rattle.markers.proofs.zeros.Statement.{statement}
+use Rattle.markers.proofs.zeros.Tie as tie
+use Rattle.markers.proofs.zeros.Reads as reads
+use Rattle.markers.proofs.zeros.Lts as lts
+
+returns : tie.Need-returns
+unfolding wordsOf
+returns c = search needs
+
+pub zeros-spec : {M : Type 1} → statement M
+zeros-spec = tie.close (tie.spec returns)

@@ -1,0 +1,29 @@
+-- Marker records as one flat list of numbers, three to a record, as the phase call reads them.
+use Prim.Native.Nat.{ℕ}
+use mathlib.Core.Bool.{cond}
+use mathlib.Core.List.{List, [], _∷_, _++_}
+use lib.ListN.{length, take, replicate}
+use lib.Dec.{ltb}
+use Rattle.reading.specs.declared.Marker.{Marker}
+use Rattle.markers.specs.declared.Unpacked.{Unpacked}
+
+-- 01: "Markers are lent as a list of marker records". Start and length of the name, and the position
+abbrev pub markerWords : List Marker → List ℕ
+markerWords [] = []
+markerWords (m ∷ ms) = m .name .start ∷ m .name .len ∷ m .position ∷ markerWords ms
+
+-- 771 numbers: those of the first 257 markers in order, then zeros
+unfoldable pub wordsOf : List Marker → List ℕ
+wordsOf ms = take 771 (markerWords ms ++ replicate 771 0)
+
+-- the count is the list's length, also where the list has more than 257 markers
+abbrev pub unpackedOf : List Marker → Unpacked
+unpackedOf ms = record { words = wordsOf ms; count = length ms }
+
+-- so many markers, of which none is copied yet
+abbrev pub blank : ℕ → Unpacked
+blank count = record { words = wordsOf []; count = count }
+
+-- how many of so many markers are copied
+abbrev pub keptOf : ℕ → ℕ
+keptOf count = cond (ltb 257 count) 257 count

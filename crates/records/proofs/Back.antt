@@ -1,0 +1,172 @@
+-- What is written to a host's record is read back as it was, and each of its numbers is known. Assumes nothing.
+use Prim.Native.Nat.{ℕ}
+use mathlib.Core.Path.{_≡_, refl}
+use mathlib.Core.Bool.{Bool, true, false}
+use lib.Dec.{leb}
+use Rattle.reading.specs.declared.RuleEngineMode.{RuleEngineMode}
+use Rattle.reading.specs.declared.BodyAccess.{BodyAccess}
+use Rattle.reading.specs.declared.BodyProcessor.{BodyProcessor}
+use Rattle.reading.specs.declared.ModeSetting.{ModeSetting}
+use Rattle.reading.specs.declared.AccessSetting.{AccessSetting}
+use Rattle.reading.specs.declared.ProcessorSetting.{ProcessorSetting}
+use Rattle.reading.specs.declared.OptionU64.{OptionU64}
+use Rattle.reading.specs.declared.OptionPlace.{OptionPlace}
+use Rattle.reading.specs.declared.RuleMetadata.{RuleMetadata}
+use Rattle.reading.specs.declared.OptionIntervention.{OptionIntervention}
+use Rattle.reading.specs.Numbers.{modeSettingNumber, accessSettingNumber, processorSettingNumber}
+use Rattle.control.specs.declared.Controls.{Controls}
+use Rattle.phase.specs.declared.Transaction.{Transaction}
+use Rattle.records.specs.Parts.{modeSetting, accessSetting, processorSetting, settingsKnown, flagOf, flagNumber, flagKnown}
+use Rattle.records.specs.Parts.{numberOf, hostNumber, numberKnown, placeOf, hostPlace, placeKnown, metadataOf, hostMetadata, metadataKnown}
+use Rattle.records.specs.Parts.{interventionOf, hostStop, noStop, hostIntervention, interventionKnown}
+use Rattle.records.specs.Whole.{controlsFromHost, controlsToHost, knownControls, fromHost, toHost, known}
+
+mode-back : (s : ModeSetting) → modeSetting (modeSettingNumber s) ≡ s
+mode-back ModeSetting.Unset = refl
+mode-back (ModeSetting.Set RuleEngineMode.On) = refl
+mode-back (ModeSetting.Set RuleEngineMode.DetectionOnly) = refl
+mode-back (ModeSetting.Set RuleEngineMode.Off) = refl
+
+access-back : (s : AccessSetting) → accessSetting (accessSettingNumber s) ≡ s
+access-back AccessSetting.Unset = refl
+access-back (AccessSetting.Set BodyAccess.On) = refl
+access-back (AccessSetting.Set BodyAccess.Off) = refl
+
+processor-back : (s : ProcessorSetting) → processorSetting (processorSettingNumber s) ≡ s
+processor-back ProcessorSetting.Unset = refl
+processor-back (ProcessorSetting.Set BodyProcessor.Urlencoded) = refl
+processor-back (ProcessorSetting.Set BodyProcessor.Multipart) = refl
+processor-back (ProcessorSetting.Set BodyProcessor.Json) = refl
+processor-back (ProcessorSetting.Set BodyProcessor.Xml) = refl
+
+flag-back : (b : Bool) → flagOf (flagNumber b) ≡ b
+flag-back true = refl
+flag-back false = refl
+
+number-back : (o : OptionU64) → numberOf (hostNumber o) ≡ o
+number-back OptionU64.None = refl
+number-back (OptionU64.Some n) = refl
+
+place-back : (o : OptionPlace) → placeOf (hostPlace o) ≡ o
+place-back OptionPlace.None = refl
+place-back (OptionPlace.Some at) = refl
+
+metadata-back : (m : RuleMetadata) → metadataOf (hostMetadata m) ≡ m
+unfolding metadataOf hostMetadata
+metadata-back m = λ i. record {
+  id = number-back (m .id) i;
+  msg = place-back (m .msg) i;
+  logdata = place-back (m .logdata) i;
+  rev = place-back (m .rev) i;
+  ver = place-back (m .ver) i;
+  severity = number-back (m .severity) i;
+  maturity = number-back (m .maturity) i;
+  accuracy = number-back (m .accuracy) i;
+}
+
+intervention-back : (o : OptionIntervention) → interventionOf (hostIntervention o) ≡ o
+unfolding interventionOf hostIntervention hostStop noStop
+intervention-back OptionIntervention.None = refl
+intervention-back (OptionIntervention.Some s) = λ i. OptionIntervention.Some (record {
+  status = s .status;
+  url = place-back (s .url) i;
+  log = place-back (s .log) i;
+  closing = number-back (s .closing) i;
+  starter = number-back (s .starter) i;
+  phase = s .phase;
+  drop = flag-back (s .drop) i;
+  metadata = metadata-back (s .metadata) i;
+})
+
+pub controls-back : (c : Controls) → controlsFromHost (controlsToHost c) ≡ c
+unfolding controlsFromHost controlsToHost
+controls-back c = λ i. record {
+  settings = record {
+    mode = mode-back (c .settings .mode) i;
+    access = access-back (c .settings .access) i;
+    processor = processor-back (c .settings .processor) i;
+  };
+  starts = c .starts;
+  ends = c .ends;
+  ranges = c .ranges;
+  phases = c .phases;
+  positions = c .positions;
+  targets = c .targets;
+}
+
+pub back : (t : Transaction) → fromHost (toHost t) ≡ t
+unfolding fromHost toHost
+back t = λ i. record {
+  controls = controls-back (t .controls) i;
+  allowed = flag-back (t .allowed) i;
+  intervention = intervention-back (t .intervention) i;
+  ids = t .ids;
+  entries = t .entries;
+}
+
+settings-known : (m : ModeSetting) (a : AccessSetting) (p : ProcessorSetting)
+    → settingsKnown (modeSettingNumber m) (accessSettingNumber a) (processorSettingNumber p) ≡ true
+settings-known m a p = rw (mode-known m, access-known a, processor-known p)
+  where
+    mode-known : (s : ModeSetting) → leb (modeSettingNumber s) 3 ≡ true
+    mode-known ModeSetting.Unset = refl
+    mode-known (ModeSetting.Set RuleEngineMode.On) = refl
+    mode-known (ModeSetting.Set RuleEngineMode.DetectionOnly) = refl
+    mode-known (ModeSetting.Set RuleEngineMode.Off) = refl
+
+    access-known : (s : AccessSetting) → leb (accessSettingNumber s) 2 ≡ true
+    access-known AccessSetting.Unset = refl
+    access-known (AccessSetting.Set BodyAccess.On) = refl
+    access-known (AccessSetting.Set BodyAccess.Off) = refl
+
+    processor-known : (s : ProcessorSetting) → leb (processorSettingNumber s) 4 ≡ true
+    processor-known ProcessorSetting.Unset = refl
+    processor-known (ProcessorSetting.Set BodyProcessor.Urlencoded) = refl
+    processor-known (ProcessorSetting.Set BodyProcessor.Multipart) = refl
+    processor-known (ProcessorSetting.Set BodyProcessor.Json) = refl
+    processor-known (ProcessorSetting.Set BodyProcessor.Xml) = refl
+
+flag-known : (b : Bool) → flagKnown (flagNumber b) ≡ true
+flag-known true = refl
+flag-known false = refl
+
+number-known : (o : OptionU64) → numberKnown (hostNumber o) ≡ true
+number-known OptionU64.None = refl
+number-known (OptionU64.Some n) = refl
+
+place-known : (o : OptionPlace) → placeKnown (hostPlace o) ≡ true
+place-known OptionPlace.None = refl
+place-known (OptionPlace.Some at) = refl
+
+metadata-known : (m : RuleMetadata) → metadataKnown (hostMetadata m) ≡ true
+unfolding metadataKnown hostMetadata
+metadata-known m = rw (
+  number-known (m .id),
+  place-known (m .msg),
+  place-known (m .logdata),
+  place-known (m .rev),
+  place-known (m .ver),
+  number-known (m .severity),
+  number-known (m .maturity),
+  number-known (m .accuracy),
+)
+
+intervention-known : (o : OptionIntervention) → interventionKnown (hostIntervention o) ≡ true
+unfolding interventionKnown hostIntervention hostStop noStop
+intervention-known OptionIntervention.None = refl
+intervention-known (OptionIntervention.Some s) = rw (
+  place-known (s .url),
+  place-known (s .log),
+  number-known (s .closing),
+  number-known (s .starter),
+  flag-known (s .drop),
+  metadata-known (s .metadata),
+)
+
+pub controls-known : (c : Controls) → knownControls (controlsToHost c) ≡ true
+unfolding knownControls controlsToHost
+controls-known c = settings-known (c .settings .mode) (c .settings .access) (c .settings .processor)
+
+pub written-known : (t : Transaction) → known (toHost t) ≡ true
+unfolding known toHost
+written-known t = rw (flag-known (t .allowed), controls-known (t .controls), intervention-known (t .intervention))
