@@ -1,18 +1,18 @@
 -- What is left of a limit after the rules passed.
 use Prim.Native.Nat.{ℕ, _+_, _-_, _*_, _/_, _≤_, _<_, min}
-use mathlib.Core.Path.{_≡_, sym, ap, _∙_}
-use mathlib.Core.Bool.{true, false}
+use mathlib.Core.Path.{_≡_, refl, sym, ap, _∙_}
+use mathlib.Core.Bool.{Bool, true, false, not, cond}
 use mathlib.Core.List.{List}
 use native.Mathlib.Omega.{arith}
-use borrow.Author.Tests.{lt-ltb, le-ltb}
-use lib.Dec.{ltb}
+use borrow.Author.Tests.{lt-ltb, le-ltb, eq-eqb, ne-eqb, eqb-true}
+use lib.Dec.{ltb, eqb}
 use lib.ListN.{length, take, drop, getD}
 use lib.Seq.{take-all}
 use Rattle.reading.specs.declared.Rule.{Rule}
 use Rattle.reading.specs.Lists.{total}
 use Rattle.reading.specs.Records.{ruleList}
 use Rattle.digest.specs.Codes.{ruleWeight}
-use Rattle.digest.proofs.TotalLaws.{clip-take, total-take-le, total-none, total-part-le}
+use Rattle.digest.proofs.TotalLaws.{clip-take, total-more, total-take-le, total-none, total-part-le}
 use Rattle.text.proofs.RecordLaws.{length-rules}
 use Rattle.digest.proofs.Summing.{rules-more}
 
@@ -22,22 +22,19 @@ pub record Left (w : ℕ → ℕ) (codes rules : List ℕ) (held limit left i : 
   pub sum : held + total (ruleWeight w codes) (take i (ruleList rules)) + left ≡ limit
 
 module _ (w : ℕ → ℕ) (all rules : List ℕ) (held limit : ℕ) where
+  -- no code weighs anything
+  pub none-adds : total w all ≡ 0 → held + total (ruleWeight w (take 4096 all)) (ruleList rules) ≡ held
+  none-adds none =
+      let each : (r : Rule) → ruleWeight w (take 4096 all) r ≡ 0
+      = λ r. omega (arith, total-part-le w (r .first) (r .count) (take 4096 all), total-take-le w 4096 all) in
+      omega (arith, total-none (ruleWeight w (take 4096 all)) each (ruleList rules))
+
   pub over-held : limit < held → true ≡ ltb limit (held + total (ruleWeight w (take 4096 all)) (ruleList rules))
   over-held h = sym (lt-ltb limit _ (omega arith))
 
   module _ (n : ℕ) (n-is : n ≡ min 4096 (length all)) where
     first-codes : take n all ≡ take 4096 all
     first-codes = ap (λ (k : ℕ). take k all) n-is ∙ clip-take 4096 all
-
-    -- no code weighs anything
-    pub left-all : held ≤ limit → total w (take n all) ≡ 0
-        → false ≡ ltb limit (held + total (ruleWeight w (take 4096 all)) (ruleList rules))
-    left-all h none =
-        let each : (r : Rule) → ruleWeight w (take n all) r ≡ 0
-        = λ r. omega (arith, total-part-le w (r .first) (r .count) (take n all)) in
-        let a : held + total (ruleWeight w (take n all)) (ruleList rules) ≤ limit
-        = omega (arith, total-none (ruleWeight w (take n all)) each (ruleList rules)) in
-        rw (← first-codes) (sym (le-ltb limit _ a))
 
     pub left-none : held ≤ limit → Left w (take n all) rules held limit (limit - held) 0
     left-none h = record { within = omega arith; sum = omega arith }
@@ -68,3 +65,23 @@ module _ (w : ℕ → ℕ) (all rules : List ℕ) (held limit : ℕ) where
           let a : held + total (ruleWeight w (take n all)) (ruleList rules) ≤ limit
           = omega (arith, so .sum, ap (total (ruleWeight w (take n all))) whole) in
           rw (← first-codes) (sym (le-ltb limit _ a))
+
+-- a search for a code that weighs something: those before i weigh nothing, and the code at i weighs `here`
+module _ (w : ℕ → ℕ) (codes : List ℕ) (i : ℕ) where
+  module _ (h : i < length codes) (here : ℕ) (is : here ≡ w (getD codes i 0)) where
+    pub weighs-here : (here ≡ 0 → ⊥) → true ≡ not (eqb (total w codes) 0)
+    weighs-here n =
+        rw (ne-eqb (total w codes) 0 (λ e. n (omega (arith, is, e, total-more w codes i 0 h, total-take-le w (i + 1) codes)))) refl
+
+    pub weighs-more : here ≡ 0 → total w (take i codes) ≡ 0 → total w (take (i + 1) codes) ≡ 0
+    weighs-more e none = omega (arith, is, total-more w codes i 0 h)
+
+  pub weighs-none : length codes ≤ i → total w (take i codes) ≡ 0 → false ≡ not (eqb (total w codes) 0)
+  weighs-none h none = rw (eq-eqb (total w codes) 0 (ap (total w) (sym (take-all i codes h)) ∙ none)) refl
+
+pub weighs-not : (n : ℕ) → not (eqb n 0) ≡ false → n ≡ 0
+weighs-not n e = go (eqb n 0) refl e
+  where
+    go : (b : Bool) → eqb n 0 ≡ b → not b ≡ false → n ≡ 0
+    go true is h = eqb-true n 0 is
+    go false is h = absurd (let z : _≡_ {A = ℕ} 1 0 = ap (λ (x : Bool). cond {A = ℕ} x 1 0) h in omega (arith, z))

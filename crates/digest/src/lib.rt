@@ -6,7 +6,8 @@ use reading::CtlDirective;
 use reading::RuleEngineMode;
 ghost use mathlib.Core.Path.{_≡_};
 ghost use Prim.Native.Nat.{_+_, _<_, _≤_, min};
-ghost use lib.Dec.{ltb};
+ghost use mathlib.Core.Bool.{not};
+ghost use lib.Dec.{eqb, ltb};
 ghost use lib.ListN.{length, take, getD};
 ghost use Rattle.reading.specs.Lists.{over, total};
 ghost use Rattle.reading.specs.Records.{ruleList, actionList};
@@ -151,9 +152,23 @@ fn wide(x: u32) -> usize
     x as usize
 }
 
+// Whether any of the codes weighs something.
+fn any_weighs(codes: &[u16], targets: bool) -> bool
+    ensures { λ r. ⌜ r ≡ not (eqb (total (weightBy targets) (now (codes .entry))) 0) ⌝ }
+{
+    let mut i = 0;
+    while i < codes.len() {
+        if weight(codes[i], targets) != 0 {
+            return true;
+        }
+        i += 1;
+    }
+    false
+}
+
 // Whether so many held and those of all rules, counted rule by rule, exceed the limit. What a rule
 // adds is the difference of two sums: one behind its last action and one before its first.
-fn exceeds(rules: &[u64], codes: &[u16], targets: bool, held: usize, limit: usize) -> bool
+fn sums_exceed(rules: &[u64], codes: &[u16], targets: bool, held: usize, limit: usize) -> bool
     ensures { λ r. ⌜ r ≡ ltb limit (held + total (ruleWeight (weightBy targets) (take 4096 (now (codes .entry)))) (ruleList (now (rules .entry)))) ⌝ }
 {
     if limit < held {
@@ -162,9 +177,6 @@ fn exceeds(rules: &[u64], codes: &[u16], targets: bool, held: usize, limit: usiz
     let n = smaller(4096, codes.len());
     let mut sums = [0u32; 4097];
     prefix_sums(&codes[..n], targets, &mut sums);
-    if sums[n] == 0 {
-        return false; // no action adds anything
-    }
     let count = rules.len() / 5;
     let mut left = limit - held;
     let mut i = 0;
@@ -179,6 +191,16 @@ fn exceeds(rules: &[u64], codes: &[u16], targets: bool, held: usize, limit: usiz
         i += 1;
     }
     false
+}
+
+// The same. In most calls no action adds anything, and then nothing is summed.
+fn exceeds(rules: &[u64], codes: &[u16], targets: bool, held: usize, limit: usize) -> bool
+    ensures { λ r. ⌜ r ≡ ltb limit (held + total (ruleWeight (weightBy targets) (take 4096 (now (codes .entry)))) (ruleList (now (rules .entry)))) ⌝ }
+{
+    if any_weighs(codes, targets) {
+        return sums_exceed(rules, codes, targets, held, limit);
+    }
+    limit < held
 }
 
 // Whether so many held ranges and those of all rules, counted rule by rule, exceed 256 (refusal 8).
