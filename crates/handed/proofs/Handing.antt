@@ -6,7 +6,7 @@ use mathlib.Core.List.{List, [], _∷_}
 use native.Mathlib.Omega.{arith}
 use lib.ListN.{length, take, drop}
 use lib.Dec.{ltb, eqb}
-use borrow.Author.Tests.{eq-eqb, ne-eqb}
+use borrow.Author.Tests.{eqb-true}
 use Rattle.reading.specs.declared.Marker.{Marker}
 use Rattle.reading.specs.Records.{markerList}
 use Rattle.reading.specs.Call.{Call, ruleCount}
@@ -14,8 +14,8 @@ use Rattle.reading.specs.Call as reading
 use Rattle.reading.specs.Refusals.{refused1, refused2, refused3, refused4, refused5, refused6, refused7}
 use Rattle.reading.specs.Walk.{Visit}
 use Rattle.reading.specs.Outcome.{Outcome, visitsOf, outcomeOf, transactionAfter}
-use Rattle.reading.specs.Demand3.{Demand3}
 use Rattle.control.specs.Held.{Became}
+use Rattle.control.proofs.Determined.{SameSizes, determined}
 use Rattle.control.proofs.HeldLaws.{ranges-length, targets-length}
 use Rattle.refusals.specs.declared.Sizes.{Sizes}
 use Rattle.refusals.specs.Lent.{Lent, firstOfSeven}
@@ -23,12 +23,13 @@ use Rattle.phase.specs.declared.Transaction.{Transaction}
 use Rattle.phase.specs.Phase.{transactionOf, callOf, outcomeFound, Ran}
 use Rattle.phase.proofs.Promise.{length-data-list, length-journal-list}
 use Rattle.records.specs.declared.HostTransaction.{HostTransaction}
-use Rattle.records.specs.Whole.{controlsFromHost, known, fromHost, toHost}
-use Rattle.records.proofs.Back.{back}
+use Rattle.records.specs.Whole.{controlsFromHost, controlsToHost, known, fromHost, toHost}
+use Rattle.records.specs.Parts.{flagNumber}
+use Rattle.records.proofs.Back.{back, forth}
 use Rattle.lent.specs.declared.Answer.{Answer}
 use Rattle.lent.specs.Lent.{callLent, phaseOf}
 use Rattle.handed.specs.declared.HostAnswer.{HostAnswer}
-use Rattle.handed.specs.Handed.{phaseFound, unknownAnswer, TurnedAway, HostRan, keptOf}
+use Rattle.handed.specs.Handed.{phaseFound, unknownAnswer, TurnedAway, HostRan, keptOf, interventionAfter, writtenOf}
 
 -- a test that is true is not false
 abbrev Holds : Bool → Type 0
@@ -164,62 +165,83 @@ kept-transaction p e =
     })
     ∙ ap (λ (vs : List Visit). transactionAfter p vs) (sym (no-entries (visitsOf p) e))
 
-module _ (p : Call) (t u : Transaction) (is : p .transaction ≡ transactionOf t) (entries journal ids′ entries′ journal′ : List ℕ) (a : Answer)
-    (ran : Ran p t entries journal (phaseOf a u) ids′ entries′ journal′) (none : a .visits ≡ 0) where
-  same : transactionOf t ≡ outcomeOf p .transaction
-  same = sym is ∙ kept-transaction p (ap (λ (o : Outcome). o .visits) (sym (ran .outcome)) ∙ none)
-
-  found : outcomeFound (phaseOf a t) ids′ entries′ journal′ ≡ outcomeOf p
-  found = λ i. record {
-    answer = ran .outcome i .answer;
-    error = ran .outcome i .error;
-    visits = ran .outcome i .visits;
-    journal = ran .outcome i .journal;
-    ids = ran .outcome i .ids;
-    data-entries = ran .outcome i .data-entries;
-    transaction = same i;
-  }
-
-  ran-unvisited : Ran p t entries journal (phaseOf a t) ids′ entries′ journal′
-  ran-unvisited = record {
-    outcome = found;
-    journal-numbers = ran .journal-numbers;
-    data-numbers = ran .data-numbers;
-    controls = record {
+-- the transaction behind a call without a visit is the one before it
+unmoved : (p : Call) (t u : Transaction) → p .transaction ≡ transactionOf t → SameSizes (u .controls) (t .controls)
+    → (entries journal ids′ entries′ journal′ : List ℕ) (a : Answer)
+    → Ran p t entries journal (phaseOf a u) ids′ entries′ journal′ → a .visits ≡ 0 → u ≡ t
+unmoved p t u is sizes entries journal ids′ entries′ journal′ a ran none =
+    let same : transactionOf t ≡ outcomeOf p .transaction
+    = sym is ∙ kept-transaction p (ap (λ (o : Outcome). o .visits) (sym (ran .outcome)) ∙ none) in
+    let found : transactionOf u ≡ transactionOf t = ap (λ (o : Outcome). o .transaction) (ran .outcome) ∙ sym same in
+    let stays : Became (t .controls) (t .controls) (outcomeOf p .transaction .controls) = record {
       meaning = ap (λ (x : reading.Transaction). x .controls) same;
       starts = refl;
       ends = refl;
       phases = refl;
       positions = refl;
-    };
-    refused = λ _. refl;
-    demand3 = subst (λ (o : Outcome). Demand3 p o) (ran .outcome ∙ sym found) (ran .demand3);
-  }
+    } in
+    let controls = determined (t .controls) (u .controls) (t .controls) (outcomeOf p .transaction .controls) sizes (ran .controls) stays in
+    λ i. record {
+      controls = controls i;
+      allowed = found i .allowed;
+      intervention = found i .intervention;
+      ids = found i .ids;
+      entries = found i .data-entries;
+    }
 
--- what `run_unpacked` gave, of the transaction t that the record stands for
+-- what `run_unpacked` gave, of the transaction t that the record stands for, and what was written
 module _ (h : HostTransaction) (t : Transaction) (is : t ≡ fromHost h) (callWith : Transaction → Call)
     (holds : (x : Transaction) → callWith x .transaction ≡ transactionOf x)
     (ids entries journal ids′ entries′ journal′ : List ℕ) (a : Answer) (u : Transaction) (k : known h ≡ true)
-    (ran : Ran (callWith t) t entries journal (phaseOf a u) ids′ entries′ journal′) where
+    (sizes : SameSizes (u .controls) (controlsFromHost (h .controls)))
+    (ran : Ran (callWith t) t entries journal (phaseOf a u) ids′ entries′ journal′)
+    (h′ : HostTransaction) (wrote : h′ ≡ writtenOf (h .intervention) (a .visits) u) where
   abbrev host : HostAnswer
   host = record { answer = a .answer; error = a .error; visits = a .visits }
 
   here : Ran (callWith (fromHost h)) (fromHost h) entries journal (phaseOf a u) ids′ entries′ journal′
   here = subst (λ (x : Transaction). Ran (callWith x) x entries journal (phaseOf a u) ids′ entries′ journal′) is ran
 
-  pub unvisited : a .visits ≡ 0 → HostRan h (callWith (fromHost h)) ids entries journal host h ids′ entries′ journal′
-  unvisited z = record {
-    ran = λ _. ran-unvisited (callWith (fromHost h)) (fromHost h) u (holds (fromHost h)) entries journal ids′ entries′ journal′ a here z;
-    record-is = λ _. rw (eq-eqb (a .visits) 0 z);
+  -- of a record that stands for what was found
+  standing : u ≡ fromHost h′ → h′ ≡ cond (eqb (a .visits) 0) h (toHost (fromHost h′))
+      → HostRan h (callWith (fromHost h)) ids entries journal host h′ ids′ entries′ journal′
+  standing from numbers = record {
+    ran = λ _. subst (λ (x : Transaction). Ran (callWith (fromHost h)) (fromHost h) entries journal (phaseOf a x) ids′ entries′ journal′) from here;
+    record-is = λ _. numbers;
     turned-away = λ y. absurd (not-both (known h) k y);
   }
 
-  pub visited : (h′ : HostTransaction) → (a .visits ≡ 0 → ⊥) → h′ ≡ toHost u
-      → HostRan h (callWith (fromHost h)) ids entries journal host h′ ids′ entries′ journal′
-  visited h′ z e =
-      let from : u ≡ fromHost h′ = sym (back u) ∙ ap fromHost (sym e) in
-      record {
-        ran = λ _. subst (λ (x : Transaction). Ran (callWith (fromHost h)) (fromHost h) entries journal (phaseOf a x) ids′ entries′ journal′) from here;
-        record-is = λ _. rw (ne-eqb (a .visits) 0 z) (e ∙ ap toHost from);
-        turned-away = λ y. absurd (not-both (known h) k y);
-      }
+  same-sizes : SameSizes (u .controls) (fromHost h .controls)
+  unfolding fromHost
+  same-sizes = sizes
+
+  as-lent : eqb (a .visits) 0 ≡ true → h′ ≡ h
+  unfolding writtenOf interventionAfter
+  as-lent z =
+      let still : u ≡ fromHost h = unmoved (callWith (fromHost h)) (fromHost h) u (holds (fromHost h)) same-sizes entries journal ids′ entries′ journal′ a here
+      (eqb-true (a .visits) 0 z) in
+      wrote ∙ (rw z (λ i. record {
+        controls = controlsToHost (still i .controls);
+        allowed = flagNumber (still i .allowed);
+        intervention = h .intervention;
+        ids = still i .ids;
+        entries = still i .entries;
+      })
+      ∙ forth h k)
+
+  anew : eqb (a .visits) 0 ≡ false → h′ ≡ toHost u
+  unfolding writtenOf interventionAfter toHost
+  anew z = wrote ∙ rw z
+
+  pub handed : HostRan h (callWith (fromHost h)) ids entries journal host h′ ids′ entries′ journal′
+  handed = go (eqb (a .visits) 0) refl
+    where
+      go : (b : Bool) → eqb (a .visits) 0 ≡ b → HostRan h (callWith (fromHost h)) ids entries journal host h′ ids′ entries′ journal′
+      go true z =
+          standing
+          (unmoved (callWith (fromHost h)) (fromHost h) u (holds (fromHost h)) same-sizes entries journal ids′ entries′ journal′ a here (eqb-true (a .visits) 0 z)
+          ∙ ap fromHost (sym (as-lent z)))
+          (as-lent z ∙ sym (ap (λ (b : Bool). cond b h (toHost (fromHost h′))) z))
+      go false z =
+          let from : u ≡ fromHost h′ = sym (back u) ∙ ap fromHost (sym (anew z)) in
+          standing from (anew z ∙ (ap toHost from ∙ sym (ap (λ (b : Bool). cond b h (toHost (fromHost h′))) z)))

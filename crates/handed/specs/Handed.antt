@@ -9,7 +9,11 @@ use Rattle.reading.specs.Refusals.{refused1, refused2, refused3, refused4}
 use Rattle.phase.specs.declared.Phase.{Phase}
 use Rattle.phase.specs.Phase.{Ran}
 use Rattle.records.specs.declared.HostTransaction.{HostTransaction}
-use Rattle.records.specs.Whole.{known, fromHost, toHost}
+use Rattle.reading.specs.declared.OptionIntervention.{OptionIntervention}
+use Rattle.phase.specs.declared.Transaction.{Transaction}
+use Rattle.records.specs.declared.HostIntervention.{HostIntervention}
+use Rattle.records.specs.Parts.{flagNumber, hostIntervention}
+use Rattle.records.specs.Whole.{controlsToHost, known, fromHost, toHost}
 use Rattle.lent.specs.Lent.{phaseOf}
 use Rattle.handed.specs.declared.HostAnswer.{HostAnswer}
 
@@ -47,3 +51,17 @@ pub record HostRan (h : HostTransaction) (q : Call) (ids entries journal : List 
 -- what is left of the first of refusals 1 to 7, found without the markers, where 5 follows 4 and there are too many markers or not
 abbrev pub keptOf : ℕ → Bool → ℕ
 keptOf n many = cond (eqb n 1) 1 (cond many 2 (cond (leb 2 n && leb n 4) n 5))
+
+-- the intervention and the record that are written: without a visit the intervention is as lent
+unfoldable pub interventionAfter : HostIntervention → ℕ → OptionIntervention → HostIntervention
+interventionAfter before visits after = cond (eqb visits 0) before (hostIntervention after)
+
+unfoldable pub writtenOf : HostIntervention → ℕ → Transaction → HostTransaction
+writtenOf before visits t =
+    record {
+      controls = controlsToHost (t .controls);
+      allowed = flagNumber (t .allowed);
+      intervention = interventionAfter before visits (t .intervention);
+      ids = t .ids;
+      entries = t .entries;
+    }

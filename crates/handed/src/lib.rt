@@ -1,5 +1,8 @@
 // The phase call on a host's record, by value. A record with a number that is not known is turned away as it is.
 use markers::Unpacked;
+use phase::Transaction;
+use reading::OptionIntervention;
+use records::HostIntervention;
 use records::HostTransaction;
 use refusals::Sizes;
 ghost use mathlib.Core.Path.{_≡_};
@@ -11,7 +14,7 @@ ghost use Rattle.refusals.specs.Lent.{Lent, firstOfSeven};
 ghost use Rattle.markers.specs.Unpacked.{unpackedOf};
 ghost use Rattle.records.specs.Whole.{fromHost};
 ghost use Rattle.lent.specs.Lent.{callLent};
-ghost use Rattle.handed.specs.Handed.{keptOf, HostRan};
+ghost use Rattle.handed.specs.Handed.{keptOf, interventionAfter, writtenOf, HostRan};
 
 // 0, 10, or the number of a refusal; the index of the rule that had the error, with 10; and how many entries the journal holds.
 #[repr(C)]
@@ -71,6 +74,38 @@ fn unknown(
         sizes,
     );
     kept(n, 256 < markers)
+}
+
+// The intervention behind a call: without a visit it is as it came.
+fn intervention_after(
+    before: HostIntervention,
+    visits: usize,
+    after: OptionIntervention,
+) -> HostIntervention
+    ensures { λ r. ⌜ r ≡ interventionAfter before visits after ⌝ }
+{
+    if visits == 0 {
+        return before;
+    }
+    records::host_intervention(after)
+}
+
+// The record behind a call. Known numbers are read and written back as they were, so without a visit the record is as it came
+// where its intervention is. It isn't kept whole for that: a copy of it costs as much as twenty rules.
+fn written(before: HostIntervention, visits: usize, t: Transaction) -> HostTransaction
+    ensures { λ r. ⌜ r ≡ writtenOf before visits t ⌝ }
+{
+    let controls = records::controls_to_host(t.controls);
+    let allowed = records::flag_number(t.allowed);
+    let found = t.intervention;
+    let intervention = intervention_after(before, visits, found);
+    HostTransaction {
+        controls,
+        allowed,
+        intervention,
+        ids: t.ids as u64,
+        entries: t.entries as u64,
+    }
 }
 
 // The phase call. Without a visit the record is handed back as it came.
@@ -143,14 +178,8 @@ pub fn host_phase(
         error: a.error,
         visits: a.visits as u64,
     };
-    if a.visits == 0 {
-        return HostHanded {
-            answer,
-            transaction: h,
-        };
-    }
     let after = p.transaction;
-    let transaction = records::to_host(after);
+    let transaction = written(h.intervention, a.visits, after);
     HostHanded {
         answer,
         transaction,

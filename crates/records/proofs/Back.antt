@@ -1,7 +1,9 @@
 -- What is written to a host's record is read back as it was, and each of its numbers is known. Assumes nothing.
-use Prim.Native.Nat.{ℕ}
+use Prim.Native.Nat.{ℕ, zero, suc}
 use mathlib.Core.Path.{_≡_, refl}
-use mathlib.Core.Bool.{Bool, true, false}
+use mathlib.Core.Bool.{Bool, true, false, _&&_}
+use native.Mathlib.Omega.{arith}
+use borrow.Author.Tests.{leb-true}
 use lib.Dec.{leb}
 use Rattle.reading.specs.declared.RuleEngineMode.{RuleEngineMode}
 use Rattle.reading.specs.declared.BodyAccess.{BodyAccess}
@@ -16,6 +18,8 @@ use Rattle.reading.specs.declared.OptionIntervention.{OptionIntervention}
 use Rattle.reading.specs.Numbers.{modeSettingNumber, accessSettingNumber, processorSettingNumber}
 use Rattle.control.specs.declared.Controls.{Controls}
 use Rattle.phase.specs.declared.Transaction.{Transaction}
+use Rattle.records.specs.declared.HostControls.{HostControls}
+use Rattle.records.specs.declared.HostTransaction.{HostTransaction}
 use Rattle.records.specs.Parts.{modeSetting, accessSetting, processorSetting, settingsKnown, flagOf, flagNumber, flagKnown}
 use Rattle.records.specs.Parts.{numberOf, hostNumber, numberKnown, placeOf, hostPlace, placeKnown, metadataOf, hostMetadata, metadataKnown}
 use Rattle.records.specs.Parts.{interventionOf, hostStop, noStop, hostIntervention, interventionKnown}
@@ -170,3 +174,73 @@ controls-known c = settings-known (c .settings .mode) (c .settings .access) (c .
 pub written-known : (t : Transaction) → known (toHost t) ≡ true
 unfolding known toHost
 written-known t = rw (flag-known (t .allowed), controls-known (t .controls), intervention-known (t .intervention))
+
+-- A known number stands for itself: read and written back, it is as it was.
+both : (a b : Bool) → (a && b) ≡ true → (a ≡ true) × (b ≡ true)
+both true true e = (refl, refl)
+both true false e = (refl, e)
+both false b e = (e, let z : _≡_ {A = Bool} false true = e in cc)
+
+mode-forth : (n : ℕ) → leb n 3 ≡ true → modeSettingNumber (modeSetting n) ≡ n
+mode-forth zero e = refl
+mode-forth (suc zero) e = refl
+mode-forth (suc (suc zero)) e = refl
+mode-forth (suc (suc (suc zero))) e = refl
+mode-forth (suc (suc (suc (suc n)))) e = absurd (omega (arith, leb-true (suc (suc (suc (suc n)))) 3 e))
+
+access-forth : (n : ℕ) → leb n 2 ≡ true → accessSettingNumber (accessSetting n) ≡ n
+access-forth zero e = refl
+access-forth (suc zero) e = refl
+access-forth (suc (suc zero)) e = refl
+access-forth (suc (suc (suc n))) e = absurd (omega (arith, leb-true (suc (suc (suc n))) 2 e))
+
+processor-forth : (n : ℕ) → leb n 4 ≡ true → processorSettingNumber (processorSetting n) ≡ n
+processor-forth zero e = refl
+processor-forth (suc zero) e = refl
+processor-forth (suc (suc zero)) e = refl
+processor-forth (suc (suc (suc zero))) e = refl
+processor-forth (suc (suc (suc (suc zero)))) e = refl
+processor-forth (suc (suc (suc (suc (suc n))))) e = absurd (omega (arith, leb-true (suc (suc (suc (suc (suc n))))) 4 e))
+
+flag-forth : (n : ℕ) → leb n 1 ≡ true → flagNumber (flagOf n) ≡ n
+flag-forth zero e = refl
+flag-forth (suc zero) e = refl
+flag-forth (suc (suc n)) e = absurd (omega (arith, leb-true (suc (suc n)) 1 e))
+
+controls-forth : (c : HostControls) → knownControls c ≡ true → controlsToHost (controlsFromHost c) ≡ c
+unfolding controlsToHost controlsFromHost knownControls
+controls-forth c k =
+    let m = both (leb (c .mode) 3 && leb (c .access) 2) (leb (c .processor) 4) k in
+    let a = both (leb (c .mode) 3) (leb (c .access) 2) (m .0) in
+    λ i. record {
+      mode = mode-forth (c .mode) (a .0) i;
+      access = access-forth (c .access) (a .1) i;
+      processor = processor-forth (c .processor) (m .1) i;
+      ranges = c .ranges;
+      targets = c .targets;
+      starts = c .starts;
+      ends = c .ends;
+      phases = c .phases;
+      positions = c .positions;
+    }
+
+-- so a record is as it was but for its intervention, of which the rest of what is absent is lost
+pub forth : (h : HostTransaction) → known h ≡ true
+    → record {
+      controls = controlsToHost (fromHost h .controls);
+      allowed = flagNumber (fromHost h .allowed);
+      intervention = h .intervention;
+      ids = fromHost h .ids;
+      entries = fromHost h .entries;
+    } ≡ h
+unfolding fromHost known
+forth h k =
+    let m = both (flagKnown (h .allowed) && knownControls (h .controls)) (interventionKnown (h .intervention)) k in
+    let a = both (flagKnown (h .allowed)) (knownControls (h .controls)) (m .0) in
+    λ i. record {
+      controls = controls-forth (h .controls) (a .1) i;
+      allowed = flag-forth (h .allowed) (a .0) i;
+      intervention = h .intervention;
+      ids = h .ids;
+      entries = h .entries;
+    }

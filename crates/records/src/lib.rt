@@ -456,7 +456,7 @@ fn no_stop() -> HostIntervention
     }
 }
 
-fn host_intervention(o: OptionIntervention) -> HostIntervention
+pub fn host_intervention(o: OptionIntervention) -> HostIntervention
     ensures { λ r. ⌜ r ≡ hostIntervention o ⌝ }
 {
     match o {

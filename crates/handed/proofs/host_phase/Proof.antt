@@ -1,13 +1,37 @@
 -- `handed::host_phase` meets its contract.
-use mathlib.Core.Path.{refl, sym, ap, _∙_}
+use mathlib.Core.Path.{_≡_, refl, sym, ap, _∙_}
+use Prim.Native.Nat.{ℕ}
+use mathlib.Core.List.{List, map}
+use lib.ListN.{length, length-map}
 use denote.Ref.{now}
+use Rattle.control.proofs.Determined.{SameSizes}
+use Rattle.records.specs.Whole.{controlsFromHost}
 use borrow.Author.Needs.{needs}
 use borrow.Author.Tests.{not-true, not-false}
 use Rattle.markers.specs.declared.Unpacked.{Unpacked}
 use Rattle.lent.specs.Lent.{callLent}
-use Rattle.handed.proofs.Handing.{turned, unvisited, visited}
+use Rattle.handed.proofs.Handing.{turned, handed}
 use Rattle.handed.proofs.host_phase.Statement.{statement}
 use Rattle.handed.proofs.host_phase.Tie as tie
+
+-- the arrays of a record and of a transaction are as long as their types say
+abbrev long : (xs : List ℕ) (n : ℕ) → length (map (λ v. v) xs) ≡ n → length xs ≡ n
+long xs n e = sym (length-map xs (λ v. v)) ∙ e
+
+sizes : (c : tie.After-run-unpacked) → SameSizes (c .run-unpacked .result .transaction .controls) (controlsFromHost (c .before .before .before .before .before .before .before .before .before .before .before .before .before .before .args .h .controls))
+unfolding controlsFromHost
+sizes c =
+    let s = c .before .before .before .before .before .before .before .before .before .before .before .before .before .before in
+    let given = s .good .0 .1 .1 .0 .1 .1 in
+    let found = c .run-unpacked .ok .1 .1 .1 .0 .1 .1 .0 .1 .1 in
+    let u = c .run-unpacked .result .transaction .controls in
+    let h = s .args .h .controls in
+    record {
+      starts = long (u .starts) 256 (found .1 .0 .1 .0 .1) ∙ sym (long (h .starts) 256 (given .1 .1 .1 .1 .1 .0 .1 .0 .1));
+      ends = long (u .ends) 256 (found .1 .1 .0 .1 .0 .1) ∙ sym (long (h .ends) 256 (given .1 .1 .1 .1 .1 .1 .0 .1 .0 .1));
+      phases = long (u .phases) 64 (found .1 .1 .1 .1 .0 .1 .0 .1) ∙ sym (long (h .phases) 64 (given .1 .1 .1 .1 .1 .1 .1 .0 .1 .0 .1));
+      positions = long (u .positions) 64 (found .1 .1 .1 .1 .1 .0 .1 .0 .1) ∙ sym (long (h .positions) 64 (given .1 .1 .1 .1 .1 .1 .1 .1 .0 .1 .0 .1));
+    }
 
 is-known-requires : tie.Need-is-known-requires
 is-known-requires c κs = search needs
@@ -27,6 +51,9 @@ from-host-requires c κs = search needs
 run-unpacked-requires : tie.Need-run-unpacked-requires
 run-unpacked-requires c κs = search needs
 
+written-requires : tie.Need-written-requires
+written-requires c κs = search needs
+
 same-length : tie.Need-same-length
 same-length c = search needs
 
@@ -41,34 +68,11 @@ returns-2 c ms e =
     let p = c .before .before .before .before .before .before .before .before .before in
     let a = p .before .before .before .before .before .before .before .before .before .before .before .before .before .before .args in
     let known = p .before .before .before .before .before .before in
-    unvisited (a .h) (p .before .before .before .before .from-host .result) (p .before .before .before .before .from-host .ensures)
-    (λ x. callLent (a .phase) (a .mode) (a .status) (now (a .rules)) (now (a .actions)) ms (now (a .text)) (now (a .outcomes)) x (now (a .ids)) (now (a .entries)) (now (a .journal))) (λ x. refl) (now (a .ids)) (now (a .entries)) (now (a .journal)) _ _ _
-    (p .run-unpacked .result .answer) (p .run-unpacked .result .transaction)
+    handed (a .h) (p .before .before .before .before .from-host .result) (p .before .before .before .before .from-host .ensures)
+    (λ x. callLent (a .phase) (a .mode) (a .status) (now (a .rules)) (now (a .actions)) ms (now (a .text)) (now (a .outcomes)) x (now (a .ids)) (now (a .entries)) (now (a .journal)))
+    (λ x. refl) (now (a .ids)) (now (a .entries)) (now (a .journal)) _ _ _ (p .run-unpacked .result .answer) (p .run-unpacked .result .transaction)
     (sym (known .is-known .ensures) ∙ not-false _ (p .before .before .before .before .before .if1 .left))
-    (p .run-unpacked .ensures ms e) (c .if2 .taken)
-
-to-host-requires : tie.Need-to-host-requires
-to-host-requires c κs = search needs
-
-same-length-4 : tie.Need-same-length-4
-same-length-4 c = search needs
-
-same-length-5 : tie.Need-same-length-5
-same-length-5 c = search needs
-
-same-length-6 : tie.Need-same-length-6
-same-length-6 c = search needs
-
-returns-3 : tie.Need-returns-3
-returns-3 c ms e =
-    let p = c .before .before .before .before .before .before .before .before .before .before .before in
-    let a = p .before .before .before .before .before .before .before .before .before .before .before .before .before .before .args in
-    let known = p .before .before .before .before .before .before in
-    visited (a .h) (p .before .before .before .before .from-host .result) (p .before .before .before .before .from-host .ensures)
-    (λ x. callLent (a .phase) (a .mode) (a .status) (now (a .rules)) (now (a .actions)) ms (now (a .text)) (now (a .outcomes)) x (now (a .ids)) (now (a .entries)) (now (a .journal))) (λ x. refl) (now (a .ids)) (now (a .entries)) (now (a .journal)) _ _ _
-    (p .run-unpacked .result .answer) (p .run-unpacked .result .transaction)
-    (sym (known .is-known .ensures) ∙ not-false _ (p .before .before .before .before .before .if1 .left))
-    (p .run-unpacked .ensures ms e) _ (c .before .before .if2 .left) (c .to-host .ensures)
+    (sizes p) (p .run-unpacked .ensures ms e) _ (c .written .ensures)
 
 pub host-phase-spec : {M : Type 1} → statement M
 host-phase-spec =
@@ -79,12 +83,8 @@ host-phase-spec =
     returns
     from-host-requires
     run-unpacked-requires
+    written-requires
     same-length
     same-length-2
     same-length-3
-    returns-2
-    to-host-requires
-    same-length-4
-    same-length-5
-    same-length-6
-    returns-3)
+    returns-2)
