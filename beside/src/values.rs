@@ -1,4 +1,4 @@
-//! Random names and values, as the manual writes them and in odd forms that have a meaning too.
+//! Random names and values of directives, as the manual writes them and in odd forms that have a meaning too.
 
 use crate::random::Random;
 
@@ -69,7 +69,7 @@ fn random_word(random: &mut Random) -> &'static str {
 }
 
 /// As written, in capitals, in small letters, or each letter in either case.
-fn recased(random: &mut Random, word: &str) -> Vec<u8> {
+pub fn recased(random: &mut Random, word: &str) -> Vec<u8> {
     let mut word = word.as_bytes().to_vec();
     match random.below(4) {
         0 => {}
@@ -94,7 +94,7 @@ fn blanks(random: &mut Random) -> Vec<u8> {
 }
 
 /// Blanks before and behind, or none.
-fn around(random: &mut Random, text: Vec<u8>) -> Vec<u8> {
+pub fn around(random: &mut Random, text: Vec<u8>) -> Vec<u8> {
     [blanks(random), text, blanks(random)].concat()
 }
 

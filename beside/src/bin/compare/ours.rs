@@ -1,0 +1,242 @@
+//! The proved library's side. The records of a case are lent as they are.
+
+use beside::case::{Call, Case};
+use beside::found::{Built, Found, Stop};
+use beside::model::trimmed;
+use tivembo::raw::{run_phase, words, Lent, Lists};
+use tivembo::{Act, HostTransaction, Intervention, Place};
+
+/// What entries that a call must not write hold.
+const PATTERN: u64 = 0xA5A5_5A5A_0F0F_F0F0;
+
+/// Entries of each list behind those that a call may need.
+const SPARE: usize = 2;
+
+/// A transaction with its lists.
+pub struct Ours {
+    mode: u64,
+    status: u64,
+    held: Box<HostTransaction>,
+    ids: Vec<u64>,
+    entries: Vec<u64>,
+    journal: Vec<u64>,
+}
+
+impl Ours {
+    /// The transaction of a case before its first call.
+    pub fn new(case: &Case) -> Self {
+        let mut held = Box::<HostTransaction>::default();
+        let (controls, entry) = (&mut held.controls, &case.entry);
+        controls.mode = entry.mode;
+        controls.access = entry.access;
+        controls.processor = entry.processor;
+        controls.ranges = entry.ranges.len() as u64;
+        for (at, range) in entry.ranges.iter().enumerate() {
+            (controls.starts[at], controls.ends[at]) = *range;
+        }
+        held.allowed = u64::from(entry.allowed);
+        held.intervention.present = u64::from(entry.stopped);
+        held.intervention.status = PATTERN;
+        Self {
+            mode: case.mode,
+            status: u64::from(case.status),
+            held,
+            ids: Vec::new(),
+            entries: Vec::new(),
+            journal: Vec::new(),
+        }
+    }
+
+    /// One call, and what is wrong with it whatever the Rust says.
+    pub fn call(&mut self, call: &Call) -> (Found, Vec<&'static str>) {
+        self.lend_lists(call.rules.len());
+        let before = self.held.clone();
+        let lists_before = (self.ids.clone(), self.entries.clone());
+        let lent = Lent {
+            phase: call.phase,
+            mode: self.mode,
+            status: self.status,
+            rules: words(&call.rules),
+            actions: words(&call.actions),
+            markers: &call.markers,
+            text: &call.text,
+            outcomes: &call.outcomes,
+        };
+        let mut lists = Lists {
+            ids: &mut self.ids,
+            entries: &mut self.entries,
+            journal: &mut self.journal,
+        };
+        let answer = run_phase(&mut self.held, &lent, &mut lists);
+        let visits = answer.visits as usize;
+        let faults = self.faults(&before, &lists_before, visits);
+        let mut found = self.found(call, &before);
+        found.answer = answer.answer;
+        found.error = (answer.answer == 10).then_some(answer.error);
+        let journal = self.journal.chunks_exact(2).take(visits);
+        found.visits = journal.map(|entry| (entry[0], entry[1])).collect();
+        (found, faults)
+    }
+
+    /// Lists with room for each rule and a few entries more; what is in use stays.
+    fn lend_lists(&mut self, rules: usize) {
+        let room = |used: u64, words: usize| (used as usize + rules + SPARE) * words;
+        self.ids.resize(room(self.held.ids, 1), PATTERN);
+        self.entries.resize(room(self.held.entries, 4), PATTERN);
+        self.journal.clear();
+        self.journal.resize(room(0, 2), PATTERN);
+    }
+
+    /// What no call may do: write where it has nothing to write, take back what was there, or change a record idly.
+    fn faults(
+        &self,
+        before: &HostTransaction,
+        lists: &(Vec<u64>, Vec<u64>),
+        visits: usize,
+    ) -> Vec<&'static str> {
+        let kept = |now: &[u64], was: &[u64], from: u64, to: u64, words: usize| {
+            let (from, to) = (from as usize * words, to as usize * words);
+            from <= to && to <= now.len() && now[..from] == was[..from] && now[to..] == was[to..]
+        };
+        let now = &self.held;
+        let targets = before.controls.targets as usize;
+        let places = |held: &HostTransaction| (held.controls.phases, held.controls.positions);
+        let ((phases, positions), (old_phases, old_positions)) = (places(now), places(before));
+        let journal = self.journal.get(2 * visits..);
+        let right = [
+            (
+                "ids list besides the new ids",
+                kept(&self.ids, &lists.0, before.ids, now.ids, 1),
+            ),
+            (
+                "data list besides the new entries",
+                kept(&self.entries, &lists.1, before.entries, now.entries, 4),
+            ),
+            (
+                "journal behind the visits",
+                journal.is_some_and(|rest| rest.iter().all(|word| *word == PATTERN)),
+            ),
+            (
+                "record of a call without visits",
+                visits > 0 || **now == *before,
+            ),
+            (
+                "targets held before",
+                phases[..targets] == old_phases[..targets]
+                    && positions[..targets] == old_positions[..targets],
+            ),
+            (
+                "intervention held before",
+                before.intervention.present == 0 || now.intervention == before.intervention,
+            ),
+        ];
+        let wrong = right.iter().filter(|(_, right)| !right);
+        wrong.map(|(name, _)| *name).collect()
+    }
+
+    /// What stands in transaction and lists after a call.
+    fn found(&self, call: &Call, before: &HostTransaction) -> Found {
+        let (now, controls) = (&self.held, &self.held.controls);
+        let new = |list: &[u64], from: u64, words: usize| list[from as usize * words..].to_vec();
+        let ids = &self.ids[..(now.ids as usize).min(self.ids.len())];
+        let entries = &self.entries[..(4 * now.entries as usize).min(self.entries.len())];
+        let entries = new(entries, before.entries, 4);
+        let data = entries.chunks_exact(4);
+        let ranges = controls.starts.iter().zip(&controls.ends);
+        let places = controls.phases.iter().zip(&controls.positions);
+        let places = places
+            .take(controls.targets as usize)
+            .skip(before.controls.targets as usize);
+        let target = |(&phase, &position)| target(call, Place { phase, position });
+        Found {
+            ids: new(ids, before.ids, 1),
+            data: data.map(|entry| data_entry(call, entry)).collect(),
+            mode: controls.mode,
+            access: controls.access,
+            processor: controls.processor,
+            ranges: ranges
+                .take(controls.ranges as usize)
+                .map(|(s, e)| (*s, *e))
+                .collect(),
+            targets: places.map(target).collect(),
+            allowed: now.allowed == 1,
+            stop: stop(call, before, now),
+            ..Found::default()
+        }
+    }
+}
+
+/// A data entry. One of another phase than the call's has no rule of this call: its index is then nonsense on purpose.
+fn data_entry(call: &Call, entry: &[u64]) -> (Option<u64>, u64) {
+    let index = if entry[2] == call.phase {
+        entry[3]
+    } else {
+        u64::MAX
+    };
+    ((entry[0] == 1).then_some(entry[1]), index)
+}
+
+fn stop(call: &Call, before: &HostTransaction, now: &HostTransaction) -> Stop {
+    match Intervention::from_record(&now.intervention) {
+        None => Stop::No,
+        Some(_) if before.intervention.present == 1 => Stop::Held,
+        Some(new) => Stop::New(Box::new(built(call, &new))),
+    }
+}
+
+fn built(call: &Call, new: &Intervention) -> Built {
+    let text = |place: Option<Place>| place.map(|place| text(call, place));
+    let metadata = &new.metadata;
+    Built {
+        status: new.status,
+        drop: new.drop,
+        url: text(new.url),
+        log: text(new.log),
+        ids: new.ids().collect(),
+        phase: new.phase,
+        id: metadata.id,
+        msg: text(metadata.msg),
+        logdata: text(metadata.logdata),
+        rev: text(metadata.rev),
+        ver: text(metadata.ver),
+        severity: metadata.severity,
+        maturity: metadata.maturity,
+        accuracy: metadata.accuracy,
+    }
+}
+
+/// The action at a place, which must be of this call: a call adds none of another.
+fn action(call: &Call, place: Place) -> Option<Act<'_>> {
+    let at = usize::try_from(place.position).ok()?;
+    let record = call.actions.get(at).filter(|_| place.phase == call.phase)?;
+    Act::from_record(record, &call.text)
+}
+
+fn text(call: &Call, place: Place) -> Vec<u8> {
+    match action(call, place) {
+        Some(
+            Act::Redirect(text)
+            | Act::Msg(text)
+            | Act::LogData(text)
+            | Act::Rev(text)
+            | Act::Ver(text),
+        ) => text.to_vec(),
+        _ => no_text(place),
+    }
+}
+
+/// 01: "cut at the first ";", both sides trimmed".
+fn target(call: &Call, place: Place) -> (Vec<u8>, Vec<u8>) {
+    let Some(Act::Ctl(_, value)) = action(call, place) else {
+        return (no_text(place), Vec::new());
+    };
+    let cut = value.iter().position(|byte| *byte == b';');
+    let (id, target) = value.split_at(cut.unwrap_or(value.len()));
+    let target = target.strip_prefix(b";").unwrap_or(target);
+    (trimmed(id).to_vec(), trimmed(target).to_vec())
+}
+
+/// Stands for a text that is not there; no text of a case has such bytes.
+fn no_text(place: Place) -> Vec<u8> {
+    format!("\u{80} no text at {place:?}").into_bytes()
+}
