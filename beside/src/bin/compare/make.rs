@@ -73,7 +73,7 @@ fn status(random: &mut Random) -> u16 {
     match random.below(8) {
         0 => 0,
         1 => u16::MAX,
-        2 => random.next() as u16,
+        2 => random.draw() as u16,
         _ => 403,
     }
 }
@@ -112,7 +112,7 @@ fn id(random: &mut Random) -> u64 {
         15 => 0,
         16..=17 => u64::MAX,
         18 => u64::MAX - 1,
-        _ => random.next(),
+        _ => random.draw(),
     }
 }
 

@@ -70,8 +70,8 @@ pub fn run(options: Options) -> Report {
 }
 
 fn run_block(options: Options, block: u64) -> Report {
-    let start = Random::new(options.seed).next().wrapping_add(block);
-    let mut random = Random::new(Random::new(start).next());
+    let start = Random::new(options.seed).draw().wrapping_add(block);
+    let mut random = Random::new(Random::new(start).draw());
     let mut left = BLOCK.min(options.calls - block * BLOCK);
     let mut report = Report::default();
     let mut case = make::at_limits(&mut random, block);
