@@ -1,7 +1,5 @@
 //! What the programs that run beside the published Rust share.
 
-#![deny(unsafe_code)]
-
 pub mod random;
 pub mod values;
 

@@ -5,7 +5,7 @@ use crate::records::{HostAsked, HostControls};
 use crate::values::{BodyProcessor, Mode, Place};
 use crate::Refusal;
 
-/// The controls of a transaction. The first five functions are the proved questions; they are refused only where a record
+/// The controls of a transaction. The first six functions are the proved questions; they are refused only where a record
 /// was given that counts more than 256 ranges or 64 targets (3) or holds an unknown number (5). The others read the record
 /// as it is.
 #[derive(Debug, Clone, Copy)]
@@ -47,6 +47,12 @@ impl<'a> Controls<'a> {
             .collect()
     }
 
+    /// The removed target at a place of the list.
+    pub fn target(&self, at: u64) -> Result<Option<Place>, Refusal> {
+        let found = exported::target_at(*self.0, at);
+        Refusal::unless(found.answer, found.target.get())
+    }
+
     /// Whether the request body is read: on until a directive says otherwise.
     pub fn request_body_access(&self) -> Result<bool, Refusal> {
         Ok(value(exported::request_body_access(*self.0))? == 0)
@@ -56,12 +62,6 @@ impl<'a> Controls<'a> {
     pub fn request_body_processor(&self) -> Result<Option<BodyProcessor>, Refusal> {
         let number = value(exported::request_body_processor(*self.0))?;
         Ok(number.checked_sub(1).and_then(BodyProcessor::from_number))
-    }
-
-    /// The removed target at a place of the list.
-    pub fn target(&self, at: u64) -> Result<Option<Place>, Refusal> {
-        let found = exported::target_at(*self.0, at);
-        Refusal::unless(found.answer, found.target.get())
     }
 
     /// The mode that a directive has set.

@@ -47,7 +47,6 @@
 //!   and applies the others when it finds the outcomes.
 //! - **Texts are ASCII.** A call with any byte of 80 (hexadecimal) or more in its text is refused, also in a msg.
 
-#![deny(unsafe_code)]
 #![warn(missing_docs)]
 
 mod act;

@@ -3,15 +3,13 @@
 use crate::controls::Controls;
 use crate::exported;
 use crate::intervention::Intervention;
+use crate::limits::MOST_RULES;
 use crate::phase::{Before, Phase};
 use crate::raw::{Lent, Lists};
 use crate::records::{DataRecord, HostChanged, HostTransaction, JournalRecord};
 use crate::ruleset::{Records, RuleSet};
 use crate::values::{Data, Mode, Outcome, Place};
 use crate::Refusal;
-
-/// More rules than a call may have: the lists are not grown for such a call, which is refused.
-const MOST_RULES: usize = crate::limits::MOST_RULES;
 
 /// What stays from phase to phase of one request: the controls, whether it is allowed or stopped, the matched ids and the
 /// data entries. The lists grow as the calls need it.
@@ -148,8 +146,8 @@ impl Transaction {
         Refusal::unless(answer.answer, Phase::new(self, answer, before))
     }
 
-    /// Lists that have a free entry for each rule, unless they are not to grow. Counts that no list has are left to the
-    /// call, which refuses them.
+    /// Lists that have a free entry for each rule, unless they are not to grow. Too many rules, and counts that no list has,
+    /// are left to the call, which refuses them.
     fn make_room(&mut self, rules: usize) {
         if !self.grows || rules > MOST_RULES {
             return;

@@ -120,75 +120,46 @@ fn removals() {
     assert!(rules.build().is_ok());
 }
 
+/// A rule set of one record of a kind.
+fn of_rule(rule: Rule) -> RuleSet {
+    RuleSet::from_records(vec![rule], vec![], vec![], vec![])
+}
+
+fn of_action(action: Action) -> RuleSet {
+    RuleSet::from_records(vec![], vec![action], vec![], b"x".to_vec())
+}
+
+fn of_marker(name: Part) -> RuleSet {
+    let marker = Marker { name, position: 0 };
+    RuleSet::from_records(vec![], vec![], vec![marker], b"x".to_vec())
+}
+
 /// What only records can break.
 #[test]
 fn records() {
+    let (rule, action) = (Rule::default(), Action::default());
     let outside = Part { start: 1, len: 1 };
-    let whole = RuleSet::from_records;
-    let rule = Rule::default();
-    let action = Action::default();
-    let (no_rules, no_text) = (Vec::new, Vec::new);
-    let cases = [
-        (
-            whole(vec![Rule { present: 2, ..rule }], vec![], vec![], no_text()),
-            Limit::Flag,
-        ),
-        (
-            whole(vec![Rule { link: 2, ..rule }], vec![], vec![], no_text()),
-            Limit::Flag,
-        ),
-        (
-            whole(
-                vec![Rule {
-                    first: u64::MAX,
-                    count: 1,
-                    ..rule
-                }],
-                vec![],
-                vec![],
-                no_text(),
-            ),
-            Limit::ActionsOutside,
-        ),
-        (
-            whole(
-                no_rules(),
-                vec![Action { kind: 21, ..action }],
-                vec![],
-                no_text(),
-            ),
-            Limit::Kind,
-        ),
-        (
-            whole(
-                no_rules(),
-                vec![Action {
-                    value: outside,
-                    ..action
-                }],
-                vec![],
-                vec![b'x'],
-            ),
-            Limit::PartOutside,
-        ),
-        (
-            whole(
-                no_rules(),
-                vec![],
-                vec![Marker {
-                    name: outside,
-                    position: 0,
-                }],
-                vec![b'x'],
-            ),
-            Limit::PartOutside,
-        ),
-    ];
-    for (rules, limit) in cases {
+    let wraps = Rule {
+        first: u64::MAX,
+        count: 1,
+        ..rule
+    };
+    let value = Action {
+        value: outside,
+        ..action
+    };
+    for (rules, limit) in [
+        (of_rule(Rule { present: 2, ..rule }), Limit::Flag),
+        (of_rule(Rule { link: 2, ..rule }), Limit::Flag),
+        (of_rule(wraps), Limit::ActionsOutside),
+        (of_action(Action { kind: 21, ..action }), Limit::Kind),
+        (of_action(value), Limit::PartOutside),
+        (of_marker(outside), Limit::PartOutside),
+    ] {
         let broken = rules.records().check().unwrap_err();
         assert_eq!(broken.limit, limit);
         refused(&rules, limit);
     }
-    let high = whole(vec![], vec![], vec![], vec![b'x', 0xff]);
+    let high = RuleSet::from_records(vec![], vec![], vec![], vec![b'x', 0xff]);
     assert_eq!(high.records().check().unwrap_err().at, Where::Byte(1));
 }

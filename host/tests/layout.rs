@@ -133,14 +133,41 @@ fn rules(stops: Act) -> RuleSet {
     rules.build().expect("within the limits")
 }
 
-/// What the unit leaves, in a transaction that held three ranges and two targets.
-fn expected(status: u64, url: HostPlace, drop: u64) -> HostTransaction {
-    let place = |position| HostPlace {
+fn place(position: u64) -> HostPlace {
+    HostPlace {
         present: 1,
         phase: 3,
         position,
+    }
+}
+
+fn number(value: u64) -> HostNumber {
+    HostNumber { present: 1, value }
+}
+
+/// What the unit leaves, in a transaction that held three ranges and two targets.
+fn expected(status: u64, url: HostPlace, drop: u64) -> HostTransaction {
+    let intervention = HostIntervention {
+        present: 1,
+        status,
+        url,
+        log: place(2),
+        closing: number(21),
+        starter: number(77),
+        phase: 3,
+        drop,
+        metadata: metadata(),
     };
-    let number = |value| HostNumber { present: 1, value };
+    HostTransaction {
+        controls: controls(),
+        allowed: 0,
+        intervention,
+        ids: 5,
+        entries: 4,
+    }
+}
+
+fn controls() -> HostControls {
     let mut controls = HostControls {
         mode: 1,
         access: 2,
@@ -152,31 +179,19 @@ fn expected(status: u64, url: HostPlace, drop: u64) -> HostTransaction {
     (controls.starts[3], controls.ends[3]) = (500, 600);
     (controls.starts[4], controls.ends[4]) = (700, 700);
     (controls.phases[2], controls.positions[2]) = (3, 13);
-    HostTransaction {
-        controls,
-        allowed: 0,
-        intervention: HostIntervention {
-            present: 1,
-            status,
-            url,
-            log: place(2),
-            closing: number(21),
-            starter: number(77),
-            phase: 3,
-            drop,
-            metadata: HostMetadata {
-                id: number(77),
-                msg: place(2),
-                logdata: place(3),
-                rev: place(4),
-                ver: place(5),
-                severity: number(61),
-                maturity: number(62),
-                accuracy: number(63),
-            },
-        },
-        ids: 5,
-        entries: 4,
+    controls
+}
+
+fn metadata() -> HostMetadata {
+    HostMetadata {
+        id: number(77),
+        msg: place(2),
+        logdata: place(3),
+        rev: place(4),
+        ver: place(5),
+        severity: number(61),
+        maturity: number(62),
+        accuracy: number(63),
     }
 }
 
@@ -225,14 +240,10 @@ fn check(stops: Act, wanted: &HostTransaction) {
 
 #[test]
 fn every_number_of_a_transaction_is_written() {
-    let url = HostPlace {
-        present: 1,
-        phase: 3,
-        position: 1,
-    };
-    check(Act::Redirect(b"u"), &expected(302, url, 0));
-    check(Act::Drop, &expected(444, HostPlace::default(), 1));
-    check(Act::Block, &expected(403, HostPlace::default(), 0));
+    let none = HostPlace::default();
+    check(Act::Redirect(b"u"), &expected(302, place(1), 0));
+    check(Act::Drop, &expected(444, none, 1));
+    check(Act::Block, &expected(403, none, 0));
 }
 
 /// The flags that a call reads: with each of them it has nothing to do.
@@ -266,6 +277,30 @@ fn the_flags_of_a_transaction_are_read() {
     assert_eq!(idle(&|t| t.allowed = 1), 0);
     assert_eq!(idle(&|t| t.intervention = stopped), 0);
     assert_eq!(idle(&|t| t.controls.mode = 3), 0);
+}
+
+#[test]
+fn every_number_of_an_answer() {
+    let lent = Lent {
+        phase: 1,
+        rules: &[0; 10],
+        outcomes: &[1, 3],
+        ..Lent::default()
+    };
+    let (mut ids, mut entries, mut journal) = ([0; 2], [0; 8], [0; 4]);
+    let mut lists = Lists {
+        ids: &mut ids,
+        entries: &mut entries,
+        journal: &mut journal,
+    };
+    let answer = raw::run_phase(&mut HostTransaction::default(), &lent, &mut lists);
+    let expected = HostAnswer {
+        answer: 10,
+        error: 1,
+        visits: 2,
+    };
+    assert_eq!(answer, expected);
+    assert_eq!(journal, [0, 1, 1, 3]);
 }
 
 #[test]

@@ -1,7 +1,9 @@
 //! Everything that a call is given, with guards around the lists that it writes.
 
 use tivembo::raw::{words, Lent, Lists};
-use tivembo::{Action, HostAnswer, HostTransaction, Marker, Rule};
+use tivembo::{
+    Action, HostAnswer, HostTransaction, Marker, Mode, Outcome, Records, Rule, Transaction,
+};
 
 /// A phase call: ours, or one that stands in for it.
 pub type PhaseCall = fn(&mut HostTransaction, &Lent<'_>, &mut Lists<'_>) -> HostAnswer;
@@ -92,5 +94,21 @@ impl Given {
             && self.ids.has_guards_of(&before.ids)
             && self.entries.has_guards_of(&before.entries)
             && self.journal.has_guards_of(&before.journal)
+    }
+
+    /// Whether the crate's own check of a rule set says of the records what a call says that has no other fault.
+    pub fn is_checked(&self) -> bool {
+        let records = Records {
+            rules: &self.rules,
+            actions: &self.actions,
+            markers: &self.markers,
+            text: &self.text,
+        };
+        let outcomes = vec![Outcome::Missed; self.rules.len()];
+        let mut transaction = Transaction::new();
+        let ran = transaction.run_records(records, 1, Mode::On, 403, &outcomes);
+        let refused = ran.err().map_or(0, |refusal| refusal.number());
+        let checked = records.check().err();
+        refused == checked.map_or(0, |broken| broken.limit.number())
     }
 }

@@ -5,7 +5,8 @@
 //! to which none applies. The answer must be the smaller number, and every byte of the transaction, the lists and what
 //! stands around the lists must be as lent. Which number is right comes from what was planted, not from any code of ours.
 //! Then it makes N calls with records that hold anything: they may be answered as they like, but must return, keep
-//! to their lists, and leave everything as lent where they are refused.
+//! to their lists, and leave everything as lent where they are refused. For all of these, what the crate's own check of a
+//! rule set says of the records must be what a call says that has no other fault.
 //!
 //! The last line is `N refused and N wild calls, W wrong`; the exit status is 1 where W is not 0. With --planted a wrong
 //! call stands in for ours, which must be found; --wrong lists them.
@@ -100,7 +101,7 @@ fn run_refused(options: &Options, random: &mut Random) -> u64 {
             answer: expected,
             ..HostAnswer::default()
         };
-        let is_right = found == right && given == before;
+        let is_right = found == right && given == before && before.is_checked();
         let what = format!("faults {plan:?}, counted from 0, expected {expected}");
         wrong += tell(is_right, wrong, &what, &before, found.answer);
         answers[expected as usize] += 1;
@@ -119,7 +120,7 @@ fn run_wild(options: &Options, random: &mut Random) -> u64 {
         let mut given = wild::wild(random);
         let before = given.clone();
         let found = given.call(options.call);
-        let is_right = is_possible(&found, &given, &before);
+        let is_right = is_possible(&found, &given, &before) && before.is_checked();
         wrong += tell(is_right, wrong, "anything", &before, found.answer);
         answers[found.answer.min(10) as usize] += 1;
     }

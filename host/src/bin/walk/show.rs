@@ -10,9 +10,9 @@ use crate::results;
 use crate::run::Walked;
 use crate::story::story;
 
-/// How wide the columns of rules and of actions are; longer entries push the rest of their line.
-const RULE: usize = 11;
-const ACTIONS: usize = 42;
+/// How wide the columns of rules and of actions are at least, and at most; longer entries push the rest of their line.
+const RULE: (usize, usize) = (11, 25);
+const ACTIONS: (usize, usize) = (42, 72);
 
 /// How many ranges are listed one by one.
 const LISTED: usize = 8;
@@ -90,15 +90,23 @@ fn entry(entry: &Entry) -> Vec<String> {
 
 fn print_rules(out: &mut impl Write, walked: &Walked, phase: &Phase) -> Result<()> {
     let rules = &walked.call.rules;
+    let names: Vec<String> = rules.iter().map(rule_name).collect();
+    let actions: Vec<String> = rules.iter().map(rule_actions).collect();
+    let (rule, action) = (width(&names, RULE), width(&actions, ACTIONS));
     let digits = rules.len().saturating_sub(1).to_string().len();
-    for ((at, rule), seen) in rules.iter().enumerate().zip(story(walked, phase)) {
+    for (at, seen) in story(walked, phase).iter().enumerate() {
         let verdict = seen.verdict.map_or("passed".to_string(), |v| v.to_string());
-        let (name, actions, words) = (rule_name(rule), rule_actions(rule), seen.words);
+        let (name, actions, words) = (&names[at], &actions[at], &seen.words);
         let line =
-            format!("  {at:>digits$}  {name:<RULE$}  {actions:<ACTIONS$}  {verdict:<7}  {words}");
+            format!("  {at:>digits$}  {name:<rule$}  {actions:<action$}  {verdict:<7}  {words}");
         writeln!(out, "{}", line.trim_end())?;
     }
     Ok(())
+}
+
+fn width(entries: &[String], (least, most): (usize, usize)) -> usize {
+    let widest = entries.iter().map(String::len).max();
+    widest.unwrap_or(0).clamp(least, most)
 }
 
 fn rule_name(rule: &Rule) -> String {
@@ -159,12 +167,14 @@ fn controls(walked: &Walked) -> String {
 fn targets(walked: &Walked) -> Option<String> {
     let added: Vec<String> = walked.targets().iter().map(results::target).collect();
     let all = walked.transaction.record().controls.targets as usize;
-    match (all - added.len(), added.is_empty()) {
-        (0, true) => None,
-        (0, false) => Some(format!("targets {}", added.join(" "))),
-        (before, true) => Some(format!("{before} targets held before")),
-        (before, false) => Some(format!("targets {}, {before} held before", added.join(" "))),
-    }
+    let before = match all - added.len() {
+        0 => None,
+        1 => Some("1 target held before".to_string()),
+        before => Some(format!("{before} targets held before")),
+    };
+    let added = (!added.is_empty()).then(|| format!("targets {}", added.join(" ")));
+    let parts: Vec<String> = added.into_iter().chain(before).collect();
+    (!parts.is_empty()).then(|| parts.join(", "))
 }
 
 fn ranges(ranges: &[(u64, u64)]) -> String {

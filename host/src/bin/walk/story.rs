@@ -70,7 +70,7 @@ impl Story<'_> {
         let words = match verdict {
             Verdict::Missed => self.broken(index, link),
             Verdict::Removed => self.removed(index, link),
-            Verdict::Matched if link => self.waits(index),
+            Verdict::Matched if link => self.waits(index, is_last),
             Verdict::Matched => self.closes(index, is_last),
             Verdict::Error => "the phase ends here".to_string(),
         };
@@ -107,12 +107,19 @@ impl Story<'_> {
         told.join(", ")
     }
 
-    fn waits(&mut self, index: usize) -> String {
+    fn waits(&mut self, index: usize, is_last: bool) -> String {
         self.open.push(index);
-        match self.open.len() {
-            1 => "waits, starter".to_string(),
-            _ => "waits".to_string(),
-        }
+        let starter = if self.open.len() == 1 {
+            ", starter"
+        } else {
+            ""
+        };
+        let open = if is_last {
+            "; the chain stays open and gives nothing"
+        } else {
+            ""
+        };
+        format!("waits{starter}{open}")
     }
 
     fn closes(&mut self, index: usize, is_last: bool) -> String {
