@@ -1,15 +1,20 @@
 //! compare [--planted READING] [N [SEED]]
 //! compare --readings
+//! compare --record [N [SEED]]
 //!
 //! Makes random cases and runs N calls through the proved library, the published Rust and a plain model written from 01, and
 //! compares the results field by field. Prints what was reached, the first differences as small cases, and as its last line
 //! `N calls, D differences`; the exit status is 1 where D is not 0, or where a run of 50,000 calls or more missed a line.
 //!
 //! With --planted the model with a wrong reading stands in for the library, which must be found; --readings lists them.
+//! --record chooses N small cases (2,000 or more) that reach every line but those of large calls, and writes them with the
+//! Rust's results below the current folder; see record.rs.
 
 mod make;
+mod numbers;
 mod ours;
 mod reached;
+mod record;
 mod run;
 mod rust;
 mod show;
@@ -17,6 +22,7 @@ mod shrink;
 mod sides;
 
 use std::env;
+use std::path::Path;
 use std::process::ExitCode;
 use std::time::Instant;
 
@@ -27,13 +33,19 @@ use reached::FULL;
 use run::{Options, Report};
 use sides::{directives, Ran, Sides};
 
-const USAGE: &str = "usage: compare [--planted READING] [N [SEED]], or compare --readings";
+const USAGE: &str =
+    "usage: compare [--planted READING] [N [SEED]], compare --readings, or compare --record [N [SEED]]";
 
 fn main() -> ExitCode {
     let words: Vec<String> = env::args().skip(1).collect();
     if words == ["--readings"] {
         READINGS.iter().for_each(|(name, ..)| println!("{name}"));
         return ExitCode::SUCCESS;
+    }
+    if let [switch, rest @ ..] = words.as_slice() {
+        if let ("--record", Some([count, seed])) = (switch.as_str(), numbers_or(rest, [2_000, 1])) {
+            return record(count, seed);
+        }
     }
     let Some(options) = options(&words) else {
         eprintln!("{USAGE}");
@@ -59,18 +71,38 @@ fn options(words: &[String]) -> Option<Options> {
         }
         rest => (None, rest),
     };
-    let numbers: Option<Vec<u64>> = rest.iter().map(|word| word.parse().ok()).collect();
-    let (calls, seed) = match numbers?.as_slice() {
-        [] => (1_000_000, 1),
-        [calls] => (*calls, 1),
-        [calls, seed] => (*calls, *seed),
-        _ => return None,
-    };
+    let [calls, seed] = numbers_or(rest, [1_000_000, 1])?;
     Some(Options {
         calls,
         seed,
         planted,
     })
+}
+
+/// Two numbers, and these where they are not given.
+fn numbers_or(words: &[String], [first, second]: [u64; 2]) -> Option<[u64; 2]> {
+    let numbers: Option<Vec<u64>> = words.iter().map(|word| word.parse().ok()).collect();
+    match numbers?.as_slice() {
+        [] => Some([first, second]),
+        [first] => Some([*first, second]),
+        [first, second] => Some([*first, *second]),
+        _ => None,
+    }
+}
+
+fn record(count: u64, seed: u64) -> ExitCode {
+    match record::record(Path::new("."), count as usize, seed) {
+        Ok(missing) => {
+            missing
+                .iter()
+                .for_each(|line| println!("too few cases: {line}"));
+            ExitCode::from(u8::from(!missing.is_empty()))
+        }
+        Err(error) => {
+            eprintln!("{error}");
+            ExitCode::FAILURE
+        }
+    }
 }
 
 /// Prints what came of a run, and says whether a line of the table is missing that should be there.

@@ -30,7 +30,20 @@ pub struct Seen<'a> {
 /// The features of one call.
 pub struct Marks([bool; Feature::COUNT]);
 
+impl Default for Marks {
+    fn default() -> Self {
+        Self([false; Feature::COUNT])
+    }
+}
+
 impl Marks {
+    /// Marks what another call reached too.
+    pub fn add(&mut self, other: &Marks) {
+        for (mark, other) in self.0.iter_mut().zip(other.0) {
+            *mark |= other;
+        }
+    }
+
     fn set(&mut self, feature: Feature) {
         self.set_if(true, feature);
     }
@@ -44,6 +57,7 @@ impl Marks {
         self.0[first as usize + lines] = true;
     }
 
+    /// The lines that are marked.
     pub fn iter(&self) -> impl Iterator<Item = usize> + '_ {
         (0..Feature::COUNT).filter(|at| self.0[*at])
     }
@@ -69,7 +83,7 @@ impl<'a> Seen<'a> {
 
     /// All that the call reached.
     pub fn marks(&self) -> Marks {
-        let mut marks = Marks([false; Feature::COUNT]);
+        let mut marks = Marks::default();
         entry::mark(self, &mut marks);
         walk::mark(self, &mut marks);
         flow::mark(self, &mut marks);

@@ -1,13 +1,13 @@
 //! Makes a case that differs as small as can be found, one edit at a time.
 
-use beside::case::{kind, outcome, Call, Case};
-use tivembo::Part;
+use beside::case::{kind, mode, outcome, Call, Case};
+use tivembo::{Action, Part};
 
 /// The at-th smaller case of one kind, none behind the last.
 type Edit = fn(&Case, usize) -> Option<Case>;
 
 /// Each makes less of something, so that no two undo each other.
-const EDITS: [Edit; 12] = [
+const EDITS: [Edit; 15] = [
     unshared,
     without_call,
     without_rules,
@@ -16,10 +16,13 @@ const EDITS: [Edit; 12] = [
     without_marker,
     without_range,
     without_entry,
+    without_mode,
     without_link,
     without_id,
     without_outcome,
     without_text,
+    without_length,
+    without_blanks,
 ];
 
 /// A case as small as edits make it that still differs.
@@ -179,6 +182,13 @@ fn without_entry(case: &Case, at: usize) -> Option<Case> {
     Some(smaller)
 }
 
+/// With the rule set's mode On, and nothing set.
+fn without_mode(case: &Case, at: usize) -> Option<Case> {
+    let mut smaller = case.clone();
+    (smaller.mode, smaller.entry.mode) = (mode::ON, 0);
+    (at == 0 && case.mode != mode::ON).then_some(smaller)
+}
+
 fn without_link(case: &Case, at: usize) -> Option<Case> {
     let things = |call: &Call| places(&call.rules, |rule| rule.link == 1);
     edited(case, at, things, |call, rule| call.rules[rule].link = 0)
@@ -199,9 +209,43 @@ fn without_outcome(case: &Case, at: usize) -> Option<Case> {
 }
 
 fn without_text(case: &Case, at: usize) -> Option<Case> {
-    let has_text = |action: &tivembo::Action| action.kind != kind::CTL && action.text.len > 0;
+    let has_text = |action: &Action| action.kind != kind::CTL && action.text.len > 0;
     let things = |call: &Call| places(&call.actions, has_text);
     edited(case, at, things, |call, action| {
         call.actions[action].text = Part::default()
+    })
+}
+
+/// With a byte less at the start or the end of a text.
+fn without_length(case: &Case, at: usize) -> Option<Case> {
+    let shorter = |part: &mut Part, from_start: bool| {
+        part.start += u64::from(from_start);
+        part.len -= 1;
+    };
+    let has_text = |action: &Action| action.kind == kind::CTL && action.value.len > 0;
+    let things = |call: &Call| places(&call.actions, has_text);
+    edited(case, at / 2, things, |call, action| {
+        shorter(&mut call.actions[action].value, at.is_multiple_of(2));
+    })
+}
+
+/// With a directive's name trimmed.
+fn without_blanks(case: &Case, at: usize) -> Option<Case> {
+    let trimmed_name = |call: &Call, action: &Action| {
+        let name = call.text(action.text);
+        let start = name.len() - name.trim_ascii_start().len();
+        Part {
+            start: action.text.start + start as u64,
+            len: name.trim_ascii().len() as u64,
+        }
+    };
+    let things = |call: &Call| {
+        let is_longer = |action: &Action| trimmed_name(call, action) != action.text;
+        places(&call.actions, |action| {
+            action.kind == kind::CTL && is_longer(action)
+        })
+    };
+    edited(case, at, things, |call, action| {
+        call.actions[action].text = trimmed_name(call, &call.actions[action]);
     })
 }

@@ -25,6 +25,8 @@ pub struct Sides {
 #[derive(Debug, Clone, Default)]
 pub struct Before {
     pub calls: usize,
+    /// Of the call before, 0 where there is none.
+    pub phase: u64,
     pub mode: u64,
     pub ranges: Vec<(u64, u64)>,
     pub targets: usize,
@@ -63,6 +65,7 @@ impl Sides {
             is_planted: planted.is_some(),
             before: Before {
                 calls: 0,
+                phase: 0,
                 mode: entry.mode,
                 ranges: entry.ranges.clone(),
                 targets: 0,
@@ -107,6 +110,7 @@ impl Sides {
         }
         let after = Before {
             calls: self.before.calls + 1,
+            phase: call.phase,
             mode: rust.mode,
             ranges: rust.ranges.clone(),
             targets: self.before.targets + rust.targets.len(),

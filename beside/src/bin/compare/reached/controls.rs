@@ -1,10 +1,20 @@
 //! What controls set, and which ids ranges remove.
 
 use beside::case::{kind, mode};
+use beside::model::trimmed;
 use oracle::CtlDirective;
 
 use super::walked::Unit;
 use super::{Feature as F, Marks, Seen};
+
+/// The supported directives as the manual writes them.
+const NAMES: [&[u8]; 5] = [
+    b"ruleEngine",
+    b"ruleRemoveById",
+    b"ruleRemoveTargetById",
+    b"requestBodyAccess",
+    b"requestBodyProcessor",
+];
 
 pub fn mark(seen: &Seen, marks: &mut Marks) {
     for unit in &seen.walked.units {
@@ -60,12 +70,11 @@ fn directives(seen: &Seen, unit: &Unit, marks: &mut Marks) {
                 marks.set(F::Unsupported);
                 continue;
             }
-            // A supported name has a capital letter within and no blanks, as the manual writes it.
-            let name = seen.call.text(action.text);
-            let is_plain = name.iter().all(u8::is_ascii_alphabetic)
-                && name.starts_with(b"r")
-                && name.iter().any(u8::is_ascii_uppercase);
-            marks.set_if(!is_plain, F::NameOdd);
+            let (name, value) = (seen.call.text(action.text), seen.call.text(action.value));
+            let plain = trimmed(name);
+            marks.set_if(!NAMES.contains(&plain), F::NameFolded);
+            marks.set_if(plain != name, F::NameTrimmed);
+            marks.set_if(trimmed(value) != value, F::ValueTrimmed);
         }
     }
 }

@@ -34,6 +34,8 @@ fn held(seen: &Seen, marks: &mut Marks) {
     } else {
         F::LaterCall
     });
+    let is_same = before.phase == seen.call.phase;
+    marks.set(if is_same { F::SamePhase } else { F::OtherPhase });
     marks.set_if(before.mode != entry.mode, F::ModeCarried);
     let carried = &before.ranges[entry.ranges.len()..];
     marks.set_if(!carried.is_empty(), F::RangesCarried);

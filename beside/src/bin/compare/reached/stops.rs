@@ -65,6 +65,9 @@ fn metadata(seen: &Seen, unit: &Unit, marks: &mut Marks) {
     marks.set_if(ignored, F::StopIgnored);
     let last = seen.last_of(unit.starter(), kind::DENY..=kind::DROP);
     let is_deny = last.is_some_and(|action| action.kind == kind::DENY);
+    let is_block = last.is_some_and(|action| action.kind == kind::BLOCK);
+    marks.set_if(is_block && seen.case.status == 0, F::StopBlock0);
+    marks.set_if(is_block && seen.case.status == u16::MAX, F::StopBlock65535);
     let status = seen.count_of(unit.starter(), kind::STATUS..=kind::STATUS) > 0;
     marks.set_if(is_deny && status, F::StopStatusAction);
 }

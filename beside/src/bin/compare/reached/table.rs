@@ -38,6 +38,8 @@ features! {
     StatusBetween = "call: another block status but 403",
     SecondCall = "call: the second on its transaction",
     LaterCall = "call: the third or a later one on its transaction",
+    OtherPhase = "call: another phase than the call before",
+    SamePhase = "call: the same phase as the call before",
     ModeCarried = "call: entered with a mode that an earlier call set",
     RangesCarried = "call: entered with ranges that an earlier call added",
     RemovedByCarried = "call: a rule is removed by a range that an earlier call added",
@@ -154,7 +156,9 @@ features! {
     TargetAdded = "control: targets added",
     TargetDropped = "control: a target whose variable is unknown",
     Unsupported = "control: an unsupported directive in a closed unit",
-    NameOdd = "control: a directive in odd letters or with blanks, supported",
+    NameFolded = "control: a directive in other letters, supported",
+    NameTrimmed = "control: a directive with blanks around it, supported",
+    ValueTrimmed = "control: a value with blanks around it, supported",
     RemovesNext = "control: removes the next rule",
     RangeStart = "range: a removed id is the start",
     RangeEnd = "range: a removed id is the end, the start another",
@@ -181,6 +185,8 @@ features! {
     StopIdsStarter = "intervention: the starter's id alone (C5)",
     StopIdsBoth = "intervention: two ids",
     StopOfChain = "intervention: of a unit of several rules",
+    StopBlock0 = "intervention: block with status 0",
+    StopBlock65535 = "intervention: block with status 65535",
     StopUrlEmpty = "intervention: an empty address",
     StopMsg = "intervention: msg and log",
     StopLogdata = "intervention: logdata",
@@ -203,6 +209,15 @@ features! {
     ActionsUnowned = "actions: one belongs to no rule",
     SharedUnits = "actions: shared by the starters of two closed units",
 }
+
+/// Lines that only large calls reach.
+const LARGE: [Feature; 5] = [
+    Feature::Rules13,
+    Feature::Rules512,
+    Feature::Actions4096,
+    Feature::Markers256,
+    Feature::Text65536,
+];
 
 /// How many calls reached each line.
 #[derive(Clone)]
@@ -235,8 +250,18 @@ impl Table {
 
     /// The lines that no call reached.
     pub fn missing(&self) -> Vec<&'static str> {
-        let lines = TEXTS.iter().zip(self.0);
-        let missing = lines.filter(|(_, count)| *count == 0);
-        missing.map(|(text, _)| *text).collect()
+        let missing = (0..Feature::COUNT).filter(|at| self.0[*at] == 0);
+        Self::texts(&missing.collect::<Vec<_>>())
+    }
+
+    /// The lines that fewer reached than so many, without those that no small call can.
+    pub fn short(&self, many: u64) -> Vec<usize> {
+        let is_short =
+            |at: &usize| self.0[*at] < many && !LARGE.iter().any(|it| *it as usize == *at);
+        (0..Feature::COUNT).filter(is_short).collect()
+    }
+
+    pub fn texts(lines: &[usize]) -> Vec<&'static str> {
+        lines.iter().map(|at| TEXTS[*at]).collect()
     }
 }
