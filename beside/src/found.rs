@@ -83,3 +83,67 @@ impl Found {
         differs.map(|(name, _)| *name).collect()
     }
 }
+
+#[cfg(test)]
+mod tests {
+    use super::*;
+
+    fn differing(change: impl Fn(&mut Found)) -> Vec<&'static str> {
+        let mut other = Found::default();
+        change(&mut other);
+        Found::default().differing(&other)
+    }
+
+    #[test]
+    fn each_field_is_named() {
+        assert!(differing(|_| ()).is_empty());
+        assert_eq!(differing(|it| it.answer = 10), ["answer"]);
+        assert_eq!(differing(|it| it.error = Some(0)), ["index of the error"]);
+        assert_eq!(
+            differing(|it| it.visits.push((0, verdict::MISSED))),
+            ["visits"]
+        );
+        assert_eq!(differing(|it| it.ids.push(1)), ["ids"]);
+        assert_eq!(differing(|it| it.data.push((None, 0))), ["data"]);
+        assert_eq!(differing(|it| it.mode = 1), ["mode"]);
+        assert_eq!(differing(|it| it.access = 1), ["body access"]);
+        assert_eq!(differing(|it| it.processor = 1), ["body processor"]);
+        assert_eq!(differing(|it| it.ranges.push((1, 2))), ["ranges"]);
+        assert_eq!(
+            differing(|it| it.targets.push((vec![], vec![]))),
+            ["targets"]
+        );
+        assert_eq!(differing(|it| it.allowed = true), ["allowed"]);
+        assert_eq!(differing(|it| it.stop = Stop::Held), ["intervention"]);
+    }
+
+    #[test]
+    fn each_field_of_an_intervention_counts() {
+        let changes: [fn(&mut Built); 14] = [
+            |it| it.status = 403,
+            |it| it.drop = true,
+            |it| it.url = Some(Vec::new()),
+            |it| it.log = Some(Vec::new()),
+            |it| it.ids.push(1),
+            |it| it.phase = 1,
+            |it| it.id = Some(0),
+            |it| it.msg = Some(Vec::new()),
+            |it| it.logdata = Some(Vec::new()),
+            |it| it.rev = Some(Vec::new()),
+            |it| it.ver = Some(Vec::new()),
+            |it| it.severity = Some(0),
+            |it| it.maturity = Some(0),
+            |it| it.accuracy = Some(0),
+        ];
+        for change in changes {
+            let mut built = Built::default();
+            change(&mut built);
+            assert_ne!(built, Built::default());
+        }
+    }
+
+    #[test]
+    fn removed_visits_are_left_out() {
+        assert!(differing(|it| it.visits.push((0, verdict::REMOVED))).is_empty());
+    }
+}

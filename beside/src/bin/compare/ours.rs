@@ -4,7 +4,7 @@ use beside::case::{Call, Case};
 use beside::found::{Built, Found, Stop};
 use beside::model::trimmed;
 use tivembo::raw::{run_phase, words, Lent, Lists};
-use tivembo::{Act, HostTransaction, Intervention, Place};
+use tivembo::{Act, HostIntervention, HostTransaction, Intervention, Place};
 
 /// What entries that a call must not write hold.
 const PATTERN: u64 = 0xA5A5_5A5A_0F0F_F0F0;
@@ -25,7 +25,7 @@ pub struct Ours {
 impl Ours {
     /// The transaction of a case before its first call.
     pub fn new(case: &Case) -> Self {
-        let mut held = Box::<HostTransaction>::default();
+        let mut held = Box::new(unused());
         let (controls, entry) = (&mut held.controls, &case.entry);
         controls.mode = entry.mode;
         controls.access = entry.access;
@@ -35,8 +35,13 @@ impl Ours {
             (controls.starts[at], controls.ends[at]) = *range;
         }
         held.allowed = u64::from(entry.allowed);
-        held.intervention.present = u64::from(entry.stopped);
-        held.intervention.status = PATTERN;
+        if entry.stopped {
+            held.intervention = HostIntervention {
+                present: 1,
+                status: PATTERN,
+                ..HostIntervention::default()
+            };
+        }
         Self {
             mode: case.mode,
             status: u64::from(case.status),
@@ -166,6 +171,20 @@ impl Ours {
     }
 }
 
+/// A transaction that holds nothing, with numbers in it wherever none is to be looked at.
+fn unused() -> HostTransaction {
+    let mut held = HostTransaction::default();
+    held.controls.starts.fill(PATTERN);
+    held.controls.ends.fill(PATTERN);
+    held.controls.phases.fill(PATTERN);
+    held.controls.positions.fill(PATTERN);
+    held.intervention.status = PATTERN;
+    held.intervention.drop = PATTERN;
+    held.intervention.url.present = PATTERN;
+    held.intervention.closing.value = PATTERN;
+    held
+}
+
 /// A data entry. One of another phase than the call's has no rule of this call: its index is then nonsense on purpose.
 fn data_entry(call: &Call, entry: &[u64]) -> (Option<u64>, u64) {
     let index = if entry[2] == call.phase {
@@ -239,4 +258,49 @@ fn target(call: &Call, place: Place) -> (Vec<u8>, Vec<u8>) {
 /// Stands for a text that is not there; no text of a case has such bytes.
 fn no_text(place: Place) -> Vec<u8> {
     format!("\u{80} no text at {place:?}").into_bytes()
+}
+
+#[cfg(test)]
+mod tests {
+    use super::*;
+
+    /// What is wrong after something was changed behind a call's back, in a transaction with one id and one target.
+    fn faults(change: impl Fn(&mut Ours), visits: usize) -> Vec<&'static str> {
+        let mut ours = Ours::new(&Case::default());
+        (ours.held.ids, ours.held.entries, ours.held.controls.targets) = (1, 1, 1);
+        ours.held.intervention = HostIntervention {
+            present: 1,
+            ..HostIntervention::default()
+        };
+        ours.lend_lists(2);
+        let before = ours.held.clone();
+        let lists = (ours.ids.clone(), ours.entries.clone());
+        change(&mut ours);
+        ours.faults(&before, &lists, visits)
+    }
+
+    #[test]
+    fn every_fault_is_named() {
+        assert!(faults(|_| (), 0).is_empty());
+        assert!(faults(|ours| (ours.held.ids, ours.ids[1]) = (2, 7), 1).is_empty());
+        let ids = ["ids list besides the new ids"];
+        assert_eq!(faults(|ours| ours.ids[0] = 7, 1), ids);
+        assert_eq!(faults(|ours| ours.ids[2] = 7, 1), ids);
+        assert_eq!(faults(|ours| ours.held.ids = 0, 1), ids);
+        let data = ["data list besides the new entries"];
+        assert_eq!(faults(|ours| ours.entries[3] = 7, 1), data);
+        assert_eq!(faults(|ours| ours.entries[4] = 7, 1), data);
+        let journal = ["journal behind the visits"];
+        assert_eq!(faults(|ours| ours.journal[2] = 7, 1), journal);
+        assert_eq!(faults(|_| (), 100), journal);
+        let record = ["record of a call without visits"];
+        assert_eq!(faults(|ours| ours.held.controls.starts[9] = 7, 0), record);
+        let targets = ["targets held before"];
+        assert_eq!(
+            faults(|ours| ours.held.controls.positions[0] = 7, 1),
+            targets
+        );
+        let stop = ["intervention held before"];
+        assert_eq!(faults(|ours| ours.held.intervention.status = 7, 1), stop);
+    }
 }
