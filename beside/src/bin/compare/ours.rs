@@ -1,10 +1,11 @@
 //! The proved library's side. The records of a case are lent as they are.
 
+mod read;
+
 use beside::case::{Call, Case};
-use beside::found::{Built, Found, Stop};
-use beside::model::trimmed;
+use beside::found::Found;
 use tivembo::raw::{run_phase, words, Lent, Lists};
-use tivembo::{Act, HostIntervention, HostTransaction, Intervention, Place};
+use tivembo::{HostIntervention, HostTransaction, Place};
 
 /// What entries that a call must not write hold.
 const PATTERN: u64 = 0xA5A5_5A5A_0F0F_F0F0;
@@ -142,20 +143,22 @@ impl Ours {
     /// What stands in transaction and lists after a call.
     fn found(&self, call: &Call, before: &HostTransaction) -> Found {
         let (now, controls) = (&self.held, &self.held.controls);
-        let new = |list: &[u64], from: u64, words: usize| list[from as usize * words..].to_vec();
-        let ids = &self.ids[..(now.ids as usize).min(self.ids.len())];
-        let entries = &self.entries[..(4 * now.entries as usize).min(self.entries.len())];
-        let entries = new(entries, before.entries, 4);
+        let new = |list: &[u64], from: u64, to: u64, words: usize| {
+            let (from, to) = (from as usize * words, (to as usize).saturating_mul(words));
+            let used = &list[..to.min(list.len())];
+            used.get(from..).map_or(Vec::new(), <[u64]>::to_vec)
+        };
+        let entries = new(&self.entries, before.entries, now.entries, 4);
         let data = entries.chunks_exact(4);
         let ranges = controls.starts.iter().zip(&controls.ends);
         let places = controls.phases.iter().zip(&controls.positions);
         let places = places
             .take(controls.targets as usize)
             .skip(before.controls.targets as usize);
-        let target = |(&phase, &position)| target(call, Place { phase, position });
+        let target = |(&phase, &position)| read::target(call, Place { phase, position });
         Found {
-            ids: new(ids, before.ids, 1),
-            data: data.map(|entry| data_entry(call, entry)).collect(),
+            ids: new(&self.ids, before.ids, now.ids, 1),
+            data: data.map(|entry| read::data_entry(call, entry)).collect(),
             mode: controls.mode,
             access: controls.access,
             processor: controls.processor,
@@ -165,7 +168,7 @@ impl Ours {
                 .collect(),
             targets: places.map(target).collect(),
             allowed: now.allowed == 1,
-            stop: stop(call, before, now),
+            stop: read::stop(call, before, now),
             ..Found::default()
         }
     }
@@ -183,81 +186,6 @@ fn unused() -> HostTransaction {
     held.intervention.url.present = PATTERN;
     held.intervention.closing.value = PATTERN;
     held
-}
-
-/// A data entry. One of another phase than the call's has no rule of this call: its index is then nonsense on purpose.
-fn data_entry(call: &Call, entry: &[u64]) -> (Option<u64>, u64) {
-    let index = if entry[2] == call.phase {
-        entry[3]
-    } else {
-        u64::MAX
-    };
-    ((entry[0] == 1).then_some(entry[1]), index)
-}
-
-fn stop(call: &Call, before: &HostTransaction, now: &HostTransaction) -> Stop {
-    match Intervention::from_record(&now.intervention) {
-        None => Stop::No,
-        Some(_) if before.intervention.present == 1 => Stop::Held,
-        Some(new) => Stop::New(Box::new(built(call, &new))),
-    }
-}
-
-fn built(call: &Call, new: &Intervention) -> Built {
-    let text = |place: Option<Place>| place.map(|place| text(call, place));
-    let metadata = &new.metadata;
-    Built {
-        status: new.status,
-        drop: new.drop,
-        url: text(new.url),
-        log: text(new.log),
-        ids: new.ids().collect(),
-        phase: new.phase,
-        id: metadata.id,
-        msg: text(metadata.msg),
-        logdata: text(metadata.logdata),
-        rev: text(metadata.rev),
-        ver: text(metadata.ver),
-        severity: metadata.severity,
-        maturity: metadata.maturity,
-        accuracy: metadata.accuracy,
-    }
-}
-
-/// The action at a place, which must be of this call: a call adds none of another.
-fn action(call: &Call, place: Place) -> Option<Act<'_>> {
-    let at = usize::try_from(place.position).ok()?;
-    let record = call.actions.get(at).filter(|_| place.phase == call.phase)?;
-    Act::from_record(record, &call.text)
-}
-
-fn text(call: &Call, place: Place) -> Vec<u8> {
-    match action(call, place) {
-        Some(
-            Act::Redirect(text)
-            | Act::Msg(text)
-            | Act::LogData(text)
-            | Act::Rev(text)
-            | Act::Ver(text),
-        ) => text.to_vec(),
-        _ => no_text(place),
-    }
-}
-
-/// 01: "cut at the first ";", both sides trimmed".
-fn target(call: &Call, place: Place) -> (Vec<u8>, Vec<u8>) {
-    let Some(Act::Ctl(_, value)) = action(call, place) else {
-        return (no_text(place), Vec::new());
-    };
-    let cut = value.iter().position(|byte| *byte == b';');
-    let (id, target) = value.split_at(cut.unwrap_or(value.len()));
-    let target = target.strip_prefix(b";").unwrap_or(target);
-    (trimmed(id).to_vec(), trimmed(target).to_vec())
-}
-
-/// Stands for a text that is not there; no text of a case has such bytes.
-fn no_text(place: Place) -> Vec<u8> {
-    format!("\u{80} no text at {place:?}").into_bytes()
 }
 
 #[cfg(test)]

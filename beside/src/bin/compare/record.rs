@@ -16,18 +16,27 @@ use crate::{make, show};
 /// Each line of the table that a small case can reach is reached by so many cases.
 const EACH: u64 = 20;
 
-/// How many cases are looked at for them.
+/// How many cases are looked at for them, and how many of these for the smallest alone.
 const LOOKED_AT: u64 = 1_000_000;
+const SMALLEST_FIRST: u64 = 50_000;
 
-/// Of a call.
-const MOST_RULES: usize = 12;
+/// How large the calls of a case may be.
+struct Size {
+    rules: usize,
+    text: usize,
+}
+
+const SMALLEST: Size = Size {
+    rules: 6,
+    text: 200,
+};
+const LARGEST: Size = Size {
+    rules: 12,
+    text: 4_096,
+};
+
 const MOST_ACTIONS: usize = 256;
 const MOST_MARKERS: usize = 16;
-const MOST_TEXT: usize = 4_096;
-
-/// Of the cases that are taken only to be many.
-const FEW_RULES: usize = 6;
-const LITTLE_TEXT: usize = 300;
 
 /// A case that was taken: its name, itself and the Rust's results.
 struct Taken {
@@ -62,7 +71,7 @@ fn write(folder: &Path, name: &str, texts: impl Iterator<Item = String>) -> io::
     Ok(())
 }
 
-/// First cases for lines that are still short of them, then small ones.
+/// First cases for lines that are still short of them, then small ones until there are enough.
 fn taken(count: usize, seed: u64) -> (Vec<Taken>, Vec<&'static str>) {
     let (mut random, mut table, mut taken) = (Random::new(seed), Table::default(), Vec::new());
     for at in 0..LOOKED_AT {
@@ -74,14 +83,15 @@ fn taken(count: usize, seed: u64) -> (Vec<Taken>, Vec<&'static str>) {
             0 => make::at_limits(&mut random, 1),
             _ => make::case(&mut random),
         };
-        if !is_within(&case, MOST_RULES, MOST_TEXT) {
+        let is_first = at < SMALLEST_FIRST;
+        if !is_within(&case, if is_first { &SMALLEST } else { &LARGEST }) {
             continue;
         }
         let Some((found, marks)) = run(&case) else {
             continue;
         };
         let is_wanted = marks.iter().any(|line| short.contains(&line));
-        let is_small = short.is_empty() && is_within(&case, FEW_RULES, LITTLE_TEXT);
+        let is_small = short.is_empty() && is_within(&case, &SMALLEST);
         if is_wanted || is_small {
             table.count(&marks);
             let name = format!("R{}", taken.len() + 1);
@@ -92,10 +102,10 @@ fn taken(count: usize, seed: u64) -> (Vec<Taken>, Vec<&'static str>) {
     (taken, Table::texts(&short))
 }
 
-fn is_within(case: &Case, rules: usize, text: usize) -> bool {
+fn is_within(case: &Case, size: &Size) -> bool {
     case.calls.iter().all(|call| {
-        call.rules.len() <= rules
-            && call.text.len() <= text
+        call.rules.len() <= size.rules
+            && call.text.len() <= size.text
             && call.actions.len() <= MOST_ACTIONS
             && call.markers.len() <= MOST_MARKERS
     })

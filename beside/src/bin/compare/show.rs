@@ -91,12 +91,12 @@ fn result(found: &Found) -> String {
     let error = found
         .error
         .map_or(String::new(), |index| format!(" {index}"));
-    let visit = |(index, verdict): &(u64, u64)| format!("{index}:{}", VERDICTS[*verdict as usize]);
+    let visit = |(index, verdict): &(u64, u64)| format!("{index}:{}", named(&VERDICTS, *verdict));
     let data = |(id, index): &(Option<u64>, u64)| format!("{}@{index}", or_dash(*id));
     let range = |(start, end): &(u64, u64)| format!("{start}-{end}");
     let target = |(id, target): &(Vec<u8>, Vec<u8>)| format!("{};{}", quoted(id), quoted(target));
     let set = |names: &[&'static str], number: u64| {
-        or_dash(number.checked_sub(1).map(|at| names[at as usize]))
+        or_dash(number.checked_sub(1).map(|at| named(names, at)))
     };
     [
         format!("answer {}{error}", found.answer),
@@ -148,6 +148,12 @@ fn list<T>(word: &str, entries: &[T], print: impl Fn(&T) -> String) -> String {
         let _ = write!(line, " {}", print(entry));
     }
     line
+}
+
+/// The name of a number; a wrong side may have one that has no name.
+fn named(names: &[&'static str], number: u64) -> String {
+    let name = usize::try_from(number).ok().and_then(|at| names.get(at));
+    name.map_or_else(|| number.to_string(), |name| name.to_string())
 }
 
 fn or_dash(value: Option<impl Display>) -> String {
