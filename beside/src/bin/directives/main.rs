@@ -12,14 +12,13 @@ mod compare;
 mod measure;
 mod planted;
 mod question;
-mod random;
 mod report;
-mod values;
 
 use std::env;
 use std::process::ExitCode;
 use std::time::Instant;
 
+use beside::{random, values};
 use compare::Outcome;
 use planted::FAULTS;
 use question::Question;

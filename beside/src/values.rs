@@ -1,4 +1,4 @@
-//! Random names and values, as the manual writes them and in odd forms that have a meaning too.
+//! Random names and values of directives, as the manual writes them and in odd forms that have a meaning too.
 
 use crate::random::Random;
 
@@ -69,7 +69,7 @@ fn random_word(random: &mut Random) -> &'static str {
 }
 
 /// As written, in capitals, in small letters, or each letter in either case.
-fn recased(random: &mut Random, word: &str) -> Vec<u8> {
+pub fn recased(random: &mut Random, word: &str) -> Vec<u8> {
     let mut word = word.as_bytes().to_vec();
     match random.below(4) {
         0 => {}
@@ -94,7 +94,7 @@ fn blanks(random: &mut Random) -> Vec<u8> {
 }
 
 /// Blanks before and behind, or none.
-fn around(random: &mut Random, text: Vec<u8>) -> Vec<u8> {
+pub fn around(random: &mut Random, text: Vec<u8>) -> Vec<u8> {
     [blanks(random), text, blanks(random)].concat()
 }
 
@@ -174,7 +174,7 @@ fn number(random: &mut Random) -> u64 {
         1 => u64::MAX - random.below(3) as u64,
         2 => {
             let shift = random.below(64);
-            random.next() >> shift
+            random.draw() >> shift
         }
         _ => 942_000 + random.below(1000) as u64,
     }
@@ -196,9 +196,9 @@ fn wrong_number(random: &mut Random) -> Vec<u8> {
     let above = u128::from(u64::MAX) + 1;
     let text = match random.below(12) {
         0 => above.to_string(),
-        1 => (above + u128::from(random.next())).to_string(),
+        1 => (above + u128::from(random.draw())).to_string(),
         2 => format!("{:021}", above + random.below(10) as u128),
-        3 => format!("9{}", random.next()),
+        3 => format!("9{}", random.draw()),
         4 => format!("{}00000000000000000000", 1 + random.below(9)),
         5 => format!("1{}", u64::MAX),
         6 => "+".to_string(),

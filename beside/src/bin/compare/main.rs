@@ -1,0 +1,171 @@
+//! compare [--planted READING] [N [SEED]]
+//! compare --readings
+//! compare --record [N [SEED]]
+//!
+//! Makes random cases and runs N calls through the proved library, the published Rust and a plain model written from 01, and
+//! compares the results field by field. Prints what was reached, the first differences as small cases, and as its last line
+//! `N calls, D differences`; the exit status is 1 where D is not 0, or where a run of 50,000 calls or more missed a line.
+//!
+//! With --planted the model with a wrong reading stands in for the library, which must be found; --readings lists them.
+//! --record chooses N small cases (2,000 or more) that reach every line but those of large calls, and writes them with the
+//! Rust's results below the current folder; see record.rs.
+
+mod make;
+mod numbers;
+mod ours;
+mod reached;
+mod record;
+mod run;
+mod rust;
+mod show;
+mod shrink;
+mod sides;
+
+use std::env;
+use std::path::Path;
+use std::process::ExitCode;
+use std::time::Instant;
+
+use beside::case::Case;
+use beside::model::{Reading, READINGS};
+
+use reached::FULL;
+use run::{Options, Report};
+use sides::{directives, Ran, Sides};
+
+const USAGE: &str =
+    "usage: compare [--planted READING] [N [SEED]], compare --readings, or compare --record [N [SEED]]";
+
+fn main() -> ExitCode {
+    let words: Vec<String> = env::args().skip(1).collect();
+    if words == ["--readings"] {
+        READINGS.iter().for_each(|(name, ..)| println!("{name}"));
+        return ExitCode::SUCCESS;
+    }
+    if let [switch, rest @ ..] = words.as_slice() {
+        if let ("--record", Some([count, seed])) = (switch.as_str(), numbers_or(rest, [2_000, 1])) {
+            return record(count, seed);
+        }
+    }
+    let Some(options) = options(&words) else {
+        eprintln!("{USAGE}");
+        return ExitCode::from(2);
+    };
+    let begin = Instant::now();
+    let report = run::run(options);
+    let seconds = begin.elapsed().as_secs_f64();
+    let missing = print(options, &report);
+    println!("{seconds:.1} s, seed {}", options.seed);
+    println!(
+        "{} calls, {} differences",
+        options.calls, report.differences
+    );
+    ExitCode::from(u8::from(missing || report.differences > 0))
+}
+
+fn options(words: &[String]) -> Option<Options> {
+    let (planted, rest) = match words {
+        [switch, name, rest @ ..] if switch == "--planted" => {
+            let known = READINGS.iter().find(|(known, ..)| known == name)?;
+            (Some(known.1), rest)
+        }
+        rest => (None, rest),
+    };
+    let [calls, seed] = numbers_or(rest, [1_000_000, 1])?;
+    Some(Options {
+        calls,
+        seed,
+        planted,
+    })
+}
+
+/// Two numbers, and these where they are not given.
+fn numbers_or(words: &[String], [first, second]: [u64; 2]) -> Option<[u64; 2]> {
+    let numbers: Option<Vec<u64>> = words.iter().map(|word| word.parse().ok()).collect();
+    match numbers?.as_slice() {
+        [] => Some([first, second]),
+        [first] => Some([*first, second]),
+        [first, second] => Some([*first, *second]),
+        _ => None,
+    }
+}
+
+fn record(count: u64, seed: u64) -> ExitCode {
+    match record::record(Path::new("."), count as usize, seed) {
+        Ok(missing) => {
+            missing
+                .iter()
+                .for_each(|line| println!("too few cases: {line}"));
+            ExitCode::from(u8::from(!missing.is_empty()))
+        }
+        Err(error) => {
+            eprintln!("{error}");
+            ExitCode::FAILURE
+        }
+    }
+}
+
+/// Prints what came of a run, and says whether a line of the table is missing that should be there.
+fn print(options: Options, report: &Report) -> bool {
+    for (number, (_, case)) in (1..).zip(&report.shown) {
+        let small = shrink::shrunk(case.clone(), |case| ran(case, options.planted).is_some());
+        print_difference(&small, options.planted, &format!("difference-{number}"));
+    }
+    if let Some(reading) = options.planted {
+        let planted = READINGS.iter().find(|(_, known, _)| *known == reading);
+        planted
+            .iter()
+            .for_each(|(.., says)| println!("planted: {says}"));
+        return false;
+    }
+    report.table.print();
+    println!(
+        "{:>10}  left out: 01 turns the call away for its ranges or targets",
+        report.left_out
+    );
+    let missing = report.table.missing();
+    let is_wrong = options.calls >= FULL && !missing.is_empty();
+    if is_wrong {
+        missing
+            .iter()
+            .for_each(|line| println!("not reached: {line}"));
+    }
+    is_wrong
+}
+
+/// The calls of a case up to the one that differs, none where none does.
+fn ran(case: &Case, planted: Option<Reading>) -> Option<Vec<(u64, Ran)>> {
+    let mut sides = Sides::new(case, planted);
+    let mut made = Vec::new();
+    for call in &case.calls {
+        if sides.is_refused(call, &directives(call)) {
+            continue;
+        }
+        made.push((call.phase, sides.call(call)));
+        if made
+            .last()
+            .is_some_and(|(_, ran)| !ran.differing.is_empty())
+        {
+            return Some(made);
+        }
+    }
+    None
+}
+
+fn print_difference(case: &Case, planted: Option<Reading>, name: &str) {
+    let made = ran(case, planted).expect("it was shrunk as long as it differs");
+    let (_, last) = made.last().expect("the last call differs");
+    let whose = if planted.is_some() { "planted" } else { "ours" };
+    println!("{}", show::case(case, name));
+    println!("# {whose} differs in: {}", last.differing.join(", "));
+    println!("# the Rust");
+    println!(
+        "{}",
+        show::results(name, made.iter().map(|(phase, ran)| (*phase, &ran.rust)))
+    );
+    println!("# {whose}");
+    println!(
+        "{}",
+        show::results(name, made.iter().map(|(phase, ran)| (*phase, &ran.other)))
+    );
+}

@@ -1,0 +1,234 @@
+//! The proved library's side. The records of a case are lent as they are.
+
+mod read;
+
+use beside::case::{Call, Case};
+use beside::found::Found;
+use tivembo::raw::{run_phase, words, Lent, Lists};
+use tivembo::{HostIntervention, HostTransaction, Place};
+
+/// What entries that a call must not write hold.
+const PATTERN: u64 = 0xA5A5_5A5A_0F0F_F0F0;
+
+/// Entries of each list behind those that a call may need.
+const SPARE: usize = 2;
+
+/// A transaction with its lists.
+pub struct Ours {
+    mode: u64,
+    status: u64,
+    held: Box<HostTransaction>,
+    ids: Vec<u64>,
+    entries: Vec<u64>,
+    journal: Vec<u64>,
+}
+
+impl Ours {
+    /// The transaction of a case before its first call.
+    pub fn new(case: &Case) -> Self {
+        let mut held = Box::new(unused());
+        let (controls, entry) = (&mut held.controls, &case.entry);
+        controls.mode = entry.mode;
+        controls.access = entry.access;
+        controls.processor = entry.processor;
+        controls.ranges = entry.ranges.len() as u64;
+        for (at, range) in entry.ranges.iter().enumerate() {
+            (controls.starts[at], controls.ends[at]) = *range;
+        }
+        held.allowed = u64::from(entry.allowed);
+        if entry.stopped {
+            held.intervention = HostIntervention {
+                present: 1,
+                status: PATTERN,
+                ..HostIntervention::default()
+            };
+        }
+        Self {
+            mode: case.mode,
+            status: u64::from(case.status),
+            held,
+            ids: Vec::new(),
+            entries: Vec::new(),
+            journal: Vec::new(),
+        }
+    }
+
+    /// One call, and what is wrong with it whatever the Rust says.
+    pub fn call(&mut self, call: &Call) -> (Found, Vec<&'static str>) {
+        self.lend_lists(call.rules.len());
+        let before = self.held.clone();
+        let lists_before = (self.ids.clone(), self.entries.clone());
+        let lent = Lent {
+            phase: call.phase,
+            mode: self.mode,
+            status: self.status,
+            rules: words(&call.rules),
+            actions: words(&call.actions),
+            markers: &call.markers,
+            text: &call.text,
+            outcomes: &call.outcomes,
+        };
+        let mut lists = Lists {
+            ids: &mut self.ids,
+            entries: &mut self.entries,
+            journal: &mut self.journal,
+        };
+        let answer = run_phase(&mut self.held, &lent, &mut lists);
+        let visits = answer.visits as usize;
+        let faults = self.faults(&before, &lists_before, visits);
+        let mut found = self.found(call, &before);
+        found.answer = answer.answer;
+        found.error = (answer.answer == 10).then_some(answer.error);
+        let journal = self.journal.chunks_exact(2).take(visits);
+        found.visits = journal.map(|entry| (entry[0], entry[1])).collect();
+        (found, faults)
+    }
+
+    /// Lists with room for each rule and a few entries more; what is in use stays.
+    fn lend_lists(&mut self, rules: usize) {
+        let room = |used: u64, words: usize| (used as usize + rules + SPARE) * words;
+        self.ids.resize(room(self.held.ids, 1), PATTERN);
+        self.entries.resize(room(self.held.entries, 4), PATTERN);
+        self.journal.clear();
+        self.journal.resize(room(0, 2), PATTERN);
+    }
+
+    /// What no call may do: write where it has nothing to write, take back what was there, or change a record idly.
+    fn faults(
+        &self,
+        before: &HostTransaction,
+        lists: &(Vec<u64>, Vec<u64>),
+        visits: usize,
+    ) -> Vec<&'static str> {
+        let kept = |now: &[u64], was: &[u64], from: u64, to: u64, words: usize| {
+            let (from, to) = (from as usize * words, to as usize * words);
+            from <= to && to <= now.len() && now[..from] == was[..from] && now[to..] == was[to..]
+        };
+        let now = &self.held;
+        let targets = before.controls.targets as usize;
+        let places = |held: &HostTransaction| (held.controls.phases, held.controls.positions);
+        let ((phases, positions), (old_phases, old_positions)) = (places(now), places(before));
+        let journal = self.journal.get(2 * visits..);
+        let right = [
+            (
+                "ids list besides the new ids",
+                kept(&self.ids, &lists.0, before.ids, now.ids, 1),
+            ),
+            (
+                "data list besides the new entries",
+                kept(&self.entries, &lists.1, before.entries, now.entries, 4),
+            ),
+            (
+                "journal behind the visits",
+                journal.is_some_and(|rest| rest.iter().all(|word| *word == PATTERN)),
+            ),
+            (
+                "record of a call without visits",
+                visits > 0 || **now == *before,
+            ),
+            (
+                "targets held before",
+                phases[..targets] == old_phases[..targets]
+                    && positions[..targets] == old_positions[..targets],
+            ),
+            (
+                "intervention held before",
+                before.intervention.present == 0 || now.intervention == before.intervention,
+            ),
+        ];
+        let wrong = right.iter().filter(|(_, right)| !right);
+        wrong.map(|(name, _)| *name).collect()
+    }
+
+    /// What stands in transaction and lists after a call.
+    fn found(&self, call: &Call, before: &HostTransaction) -> Found {
+        let (now, controls) = (&self.held, &self.held.controls);
+        let new = |list: &[u64], from: u64, to: u64, words: usize| {
+            let (from, to) = (from as usize * words, (to as usize).saturating_mul(words));
+            let used = &list[..to.min(list.len())];
+            used.get(from..).map_or(Vec::new(), <[u64]>::to_vec)
+        };
+        let entries = new(&self.entries, before.entries, now.entries, 4);
+        let data = entries.chunks_exact(4);
+        let ranges = controls.starts.iter().zip(&controls.ends);
+        let places = controls.phases.iter().zip(&controls.positions);
+        let places = places
+            .take(controls.targets as usize)
+            .skip(before.controls.targets as usize);
+        let target = |(&phase, &position)| read::target(call, Place { phase, position });
+        Found {
+            ids: new(&self.ids, before.ids, now.ids, 1),
+            data: data.map(|entry| read::data_entry(call, entry)).collect(),
+            mode: controls.mode,
+            access: controls.access,
+            processor: controls.processor,
+            ranges: ranges
+                .take(controls.ranges as usize)
+                .map(|(s, e)| (*s, *e))
+                .collect(),
+            targets: places.map(target).collect(),
+            allowed: now.allowed == 1,
+            stop: read::stop(call, before, now),
+            ..Found::default()
+        }
+    }
+}
+
+/// A transaction that holds nothing, with numbers in it wherever none is to be looked at.
+fn unused() -> HostTransaction {
+    let mut held = HostTransaction::default();
+    held.controls.starts.fill(PATTERN);
+    held.controls.ends.fill(PATTERN);
+    held.controls.phases.fill(PATTERN);
+    held.controls.positions.fill(PATTERN);
+    held.intervention.status = PATTERN;
+    held.intervention.drop = PATTERN;
+    held.intervention.url.present = PATTERN;
+    held.intervention.closing.value = PATTERN;
+    held
+}
+
+#[cfg(test)]
+mod tests {
+    use super::*;
+
+    /// What is wrong after something was changed behind a call's back, in a transaction with one id and one target.
+    fn faults(change: impl Fn(&mut Ours), visits: usize) -> Vec<&'static str> {
+        let mut ours = Ours::new(&Case::default());
+        (ours.held.ids, ours.held.entries, ours.held.controls.targets) = (1, 1, 1);
+        ours.held.intervention = HostIntervention {
+            present: 1,
+            ..HostIntervention::default()
+        };
+        ours.lend_lists(2);
+        let before = ours.held.clone();
+        let lists = (ours.ids.clone(), ours.entries.clone());
+        change(&mut ours);
+        ours.faults(&before, &lists, visits)
+    }
+
+    #[test]
+    fn every_fault_is_named() {
+        assert!(faults(|_| (), 0).is_empty());
+        assert!(faults(|ours| (ours.held.ids, ours.ids[1]) = (2, 7), 1).is_empty());
+        let ids = ["ids list besides the new ids"];
+        assert_eq!(faults(|ours| ours.ids[0] = 7, 1), ids);
+        assert_eq!(faults(|ours| ours.ids[2] = 7, 1), ids);
+        assert_eq!(faults(|ours| ours.held.ids = 0, 1), ids);
+        let data = ["data list besides the new entries"];
+        assert_eq!(faults(|ours| ours.entries[3] = 7, 1), data);
+        assert_eq!(faults(|ours| ours.entries[4] = 7, 1), data);
+        let journal = ["journal behind the visits"];
+        assert_eq!(faults(|ours| ours.journal[2] = 7, 1), journal);
+        assert_eq!(faults(|_| (), 100), journal);
+        let record = ["record of a call without visits"];
+        assert_eq!(faults(|ours| ours.held.controls.starts[9] = 7, 0), record);
+        let targets = ["targets held before"];
+        assert_eq!(
+            faults(|ours| ours.held.controls.positions[0] = 7, 1),
+            targets
+        );
+        let stop = ["intervention held before"];
+        assert_eq!(faults(|ours| ours.held.intervention.status = 7, 1), stop);
+    }
+}

@@ -1,0 +1,82 @@
+//! What the numbers that a call wrote stand for.
+
+use beside::case::Call;
+use beside::found::{Built, Stop};
+use beside::model::trimmed;
+use tivembo::{Act, HostTransaction, Intervention, Place};
+
+/// A data entry. One of another phase than the call's has no rule of this call: its index is then nonsense on purpose.
+pub fn data_entry(call: &Call, entry: &[u64]) -> (Option<u64>, u64) {
+    let index = if entry[2] == call.phase {
+        entry[3]
+    } else {
+        u64::MAX
+    };
+    ((entry[0] == 1).then_some(entry[1]), index)
+}
+
+/// The intervention after a call, with its texts.
+pub fn stop(call: &Call, before: &HostTransaction, now: &HostTransaction) -> Stop {
+    match Intervention::from_record(&now.intervention) {
+        None => Stop::No,
+        Some(_) if before.intervention.present == 1 => Stop::Held,
+        Some(new) => Stop::New(Box::new(built(call, &new))),
+    }
+}
+
+fn built(call: &Call, new: &Intervention) -> Built {
+    let text = |place: Option<Place>| place.map(|place| text(call, place));
+    let metadata = &new.metadata;
+    Built {
+        status: new.status,
+        drop: new.drop,
+        url: text(new.url),
+        log: text(new.log),
+        ids: new.ids().collect(),
+        phase: new.phase,
+        id: metadata.id,
+        msg: text(metadata.msg),
+        logdata: text(metadata.logdata),
+        rev: text(metadata.rev),
+        ver: text(metadata.ver),
+        severity: metadata.severity,
+        maturity: metadata.maturity,
+        accuracy: metadata.accuracy,
+    }
+}
+
+/// The action at a place, which must be of this call: a call adds none of another.
+fn action(call: &Call, place: Place) -> Option<Act<'_>> {
+    let at = usize::try_from(place.position).ok()?;
+    let record = call.actions.get(at).filter(|_| place.phase == call.phase)?;
+    Act::from_record(record, &call.text)
+}
+
+fn text(call: &Call, place: Place) -> Vec<u8> {
+    match action(call, place) {
+        Some(
+            Act::Redirect(text)
+            | Act::Msg(text)
+            | Act::LogData(text)
+            | Act::Rev(text)
+            | Act::Ver(text),
+        ) => text.to_vec(),
+        _ => no_text(place),
+    }
+}
+
+/// 01: "cut at the first ";", both sides trimmed".
+pub fn target(call: &Call, place: Place) -> (Vec<u8>, Vec<u8>) {
+    let Some(Act::Ctl(_, value)) = action(call, place) else {
+        return (no_text(place), Vec::new());
+    };
+    let cut = value.iter().position(|byte| *byte == b';');
+    let (id, target) = value.split_at(cut.unwrap_or(value.len()));
+    let target = target.strip_prefix(b";").unwrap_or(target);
+    (trimmed(id).to_vec(), trimmed(target).to_vec())
+}
+
+/// Stands for a text that is not there; no text of a case has such bytes.
+fn no_text(place: Place) -> Vec<u8> {
+    format!("\u{80} no text at {place:?}").into_bytes()
+}

@@ -1,0 +1,170 @@
+//! The Rust's walk, made out from the rules that it evaluated.
+
+use beside::case::{kind, mode, verdict, Call, Case};
+use beside::found::{Found, Stop};
+use oracle::{CtlDirective, RuleEngineMode};
+
+use crate::sides::{Before, Directives};
+
+/// A closed unit.
+pub struct Unit {
+    /// The starter first, the closing rule last.
+    pub members: Vec<usize>,
+    pub mode_before: u64,
+    /// The mode in force after its controls.
+    pub mode_after: u64,
+    /// Whether the walk went on behind it.
+    pub went_on: bool,
+}
+
+impl Unit {
+    pub fn starter(&self) -> usize {
+        self.members[0]
+    }
+
+    pub fn closing(&self) -> usize {
+        self.members[self.members.len() - 1]
+    }
+}
+
+/// What became of the chains.
+#[derive(Default)]
+pub struct Walked {
+    pub is_idle: bool,
+    pub units: Vec<Unit>,
+    /// Rules that were passed as removed, and whether a chain was open: those whose turn it was for certain. Behind a flow
+    /// action none are looked for.
+    pub removed: Vec<(usize, bool)>,
+    /// Missed rules, and how many members the chain then had that was open.
+    pub missed: Vec<(usize, usize)>,
+    /// Links that had matched when their chain broke.
+    pub lost: Vec<usize>,
+    /// How many members the chain had that was open at the end, and at the rule in error.
+    pub left_open: usize,
+    pub open_at_error: usize,
+}
+
+struct Walker<'a> {
+    call: &'a Call,
+    directives: &'a Directives,
+    members: Vec<usize>,
+    mode: u64,
+    walked: Walked,
+}
+
+impl Walked {
+    pub fn of(
+        case: &Case,
+        call: &Call,
+        directives: &Directives,
+        before: &Before,
+        rust: &Found,
+    ) -> Self {
+        let mode = before.mode.checked_sub(1).unwrap_or(case.mode);
+        let is_held = before.allowed || before.stopped;
+        if is_held || mode == mode::OFF || call.rules.is_empty() {
+            return Self {
+                is_idle: true,
+                ..Self::default()
+            };
+        }
+        let mut walker = Walker {
+            call,
+            directives,
+            members: Vec::new(),
+            mode,
+            walked: Self::default(),
+        };
+        walker.walk(rust);
+        walker.walked
+    }
+}
+
+impl Walker<'_> {
+    fn walk(&mut self, rust: &Found) {
+        // The next index, where no flow action changed it.
+        let mut next = Some(0);
+        for &(index, verdict) in &rust.visits {
+            let index = index as usize;
+            self.pass_removed(next, index);
+            next = match verdict {
+                verdict::MISSED => Some(self.missed(index)),
+                verdict::ERROR => None,
+                _ => self.matched(index),
+            };
+        }
+        if rust.error.is_some() {
+            self.walked.open_at_error = self.members.len();
+            return;
+        }
+        if rust.allowed || rust.stop != Stop::No || self.mode == mode::OFF {
+            self.walked.units.last_mut().expect("a unit did it").went_on = false;
+            return;
+        }
+        self.pass_removed(next, self.call.rules.len());
+        self.walked.left_open = self.members.len();
+    }
+
+    /// What lies between the next index and the rule that was evaluated next was removed.
+    fn pass_removed(&mut self, from: Option<usize>, to: usize) {
+        let mut next = from.unwrap_or(to);
+        while next < to {
+            self.walked.removed.push((next, !self.members.is_empty()));
+            next = match self.call.is_link(next) {
+                true => self.break_chain(next),
+                false => next + 1,
+            };
+        }
+    }
+
+    fn break_chain(&mut self, index: usize) -> usize {
+        self.walked.lost.append(&mut self.members);
+        let mut rest = index..self.call.rules.len();
+        let closing = rest.find(|at| !self.call.is_link(*at));
+        closing.map_or(self.call.rules.len(), |closing| closing + 1)
+    }
+
+    fn missed(&mut self, index: usize) -> usize {
+        self.walked.missed.push((index, self.members.len()));
+        match self.call.is_link(index) || !self.members.is_empty() {
+            true => self.break_chain(index),
+            false => index + 1,
+        }
+    }
+
+    fn matched(&mut self, index: usize) -> Option<usize> {
+        self.members.push(index);
+        if self.call.is_link(index) {
+            return Some(index + 1);
+        }
+        let members = std::mem::take(&mut self.members);
+        let mode_before = self.mode;
+        for &member in &members {
+            self.apply_modes(member);
+        }
+        let mut starter = self.call.actions_of(members[0]).iter();
+        let flows = starter.any(|action| (kind::CHAIN..=kind::MULTI_MATCH).contains(&action.kind));
+        self.walked.units.push(Unit {
+            members,
+            mode_before,
+            mode_after: self.mode,
+            went_on: true,
+        });
+        (!flows).then_some(index + 1)
+    }
+
+    fn apply_modes(&mut self, member: usize) {
+        for directive in self.directives[self.call.places_of(member)]
+            .iter()
+            .flatten()
+        {
+            if let CtlDirective::RuleEngine(set) = directive {
+                self.mode = match set {
+                    RuleEngineMode::On => mode::ON,
+                    RuleEngineMode::DetectionOnly => mode::DETECTION_ONLY,
+                    RuleEngineMode::Off => mode::OFF,
+                };
+            }
+        }
+    }
+}

@@ -1,0 +1,110 @@
+//! Runs over many cases, in blocks that do not depend on each other.
+
+use std::sync::atomic::{AtomicU64, Ordering};
+use std::sync::Mutex;
+use std::thread;
+
+use beside::case::Case;
+use beside::model::Reading;
+use beside::random::Random;
+
+use crate::make;
+use crate::reached::{Seen, Table};
+use crate::sides::{directives, Sides};
+
+/// Calls of a block. Each has random numbers of its own, so that the result is the same with any number of threads.
+const BLOCK: u64 = 1_000;
+
+/// How many differences are kept to be shown.
+pub const SHOWN: usize = 3;
+
+/// What is run.
+#[derive(Clone, Copy)]
+pub struct Options {
+    pub calls: u64,
+    pub seed: u64,
+    pub planted: Option<Reading>,
+}
+
+/// What came of it.
+#[derive(Default)]
+pub struct Report {
+    pub table: Table,
+    pub left_out: u64,
+    pub differences: u64,
+    /// The first cases that differ, with their blocks.
+    pub shown: Vec<(u64, Case)>,
+}
+
+impl Report {
+    fn add(&mut self, other: Report) {
+        self.table.add(&other.table);
+        self.left_out += other.left_out;
+        self.differences += other.differences;
+        self.shown.extend(other.shown);
+        // Blocks end in any order.
+        self.shown.sort_by_key(|(block, _)| *block);
+        self.shown.truncate(SHOWN);
+    }
+}
+
+/// Runs all blocks on all processors.
+pub fn run(options: Options) -> Report {
+    let (next, whole) = (AtomicU64::new(0), Mutex::new(Report::default()));
+    let blocks = options.calls.div_ceil(BLOCK);
+    let work = || loop {
+        let block = next.fetch_add(1, Ordering::Relaxed);
+        if block >= blocks {
+            return;
+        }
+        let report = run_block(options, block);
+        whole.lock().expect("no thread fails").add(report);
+    };
+    let threads = thread::available_parallelism().map_or(1, |count| count.get());
+    thread::scope(|scope| {
+        for _ in 0..threads {
+            scope.spawn(work);
+        }
+    });
+    whole.into_inner().expect("no thread fails")
+}
+
+fn run_block(options: Options, block: u64) -> Report {
+    let start = Random::new(options.seed).draw().wrapping_add(block);
+    let mut random = Random::new(Random::new(start).draw());
+    let mut left = BLOCK.min(options.calls - block * BLOCK);
+    let mut report = Report::default();
+    let mut case = make::at_limits(&mut random, block);
+    while left > 0 {
+        run_case(options, block, &case, &mut left, &mut report);
+        case = make::case(&mut random);
+    }
+    report
+}
+
+/// Runs a case up to the first difference: what comes behind it has other transactions.
+fn run_case(options: Options, block: u64, case: &Case, left: &mut u64, report: &mut Report) {
+    let mut sides = Sides::new(case, options.planted);
+    for (at, call) in case.calls.iter().enumerate() {
+        let directives = directives(call);
+        if sides.is_refused(call, &directives) {
+            report.left_out += 1;
+            continue;
+        }
+        if *left == 0 {
+            return;
+        }
+        *left -= 1;
+        let ran = sides.call(call);
+        let seen = Seen::new(case, call, &directives, &ran.before, &ran.rust);
+        report.table.count(&seen.marks());
+        if !ran.differing.is_empty() {
+            report.differences += 1;
+            let mut case = case.clone();
+            case.calls.truncate(at + 1);
+            report.shown.push((block, case));
+            report.shown.truncate(SHOWN);
+            return;
+        }
+    }
+}

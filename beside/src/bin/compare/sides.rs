@@ -1,0 +1,153 @@
+//! All sides of a case, and in what they differ.
+
+use beside::case::{verdict, Call, Case};
+use beside::found::{Found, Stop};
+use beside::model::{Model, Reading};
+use oracle::{CtlDirective, Run};
+
+use crate::ours::Ours;
+use crate::rust;
+
+/// 01's refusals 8 and 9.
+const MOST_RANGES: usize = 256;
+const MOST_TARGETS: usize = 64;
+
+/// Three transactions that stand alike.
+pub struct Sides {
+    rust: Run,
+    ours: Ours,
+    model: Model,
+    is_planted: bool,
+    before: Before,
+}
+
+/// What the Rust held before a call, as far as its results tell.
+#[derive(Debug, Clone, Default)]
+pub struct Before {
+    pub calls: usize,
+    /// Of the call before, 0 where there is none.
+    pub phase: u64,
+    pub mode: u64,
+    pub ranges: Vec<(u64, u64)>,
+    pub targets: usize,
+    pub allowed: bool,
+    pub stopped: bool,
+}
+
+/// One call on all sides.
+pub struct Ran {
+    pub before: Before,
+    pub rust: Found,
+    /// The proved library, or what was planted in its place.
+    pub other: Found,
+    /// In what they differ, as sentences.
+    pub differing: Vec<String>,
+}
+
+/// What the published reader makes of each action, none where it is no ctl.
+pub type Directives = Vec<Option<CtlDirective>>;
+
+pub fn directives(call: &Call) -> Directives {
+    let read = |action| {
+        let is_ctl = beside::model::is_ctl(action);
+        is_ctl.then(|| CtlDirective::parse(&rust::control(call, action)))
+    };
+    call.actions.iter().map(read).collect()
+}
+
+impl Sides {
+    pub fn new(case: &Case, planted: Option<Reading>) -> Self {
+        let entry = &case.entry;
+        Self {
+            rust: rust::run(case),
+            ours: Ours::new(case),
+            model: Model::new(case, planted),
+            is_planted: planted.is_some(),
+            before: Before {
+                calls: 0,
+                phase: 0,
+                mode: entry.mode,
+                ranges: entry.ranges.clone(),
+                targets: 0,
+                allowed: entry.allowed,
+                stopped: entry.stopped,
+            },
+        }
+    }
+
+    /// Whether 01 turns a call away that is well-formed: by 8 or 9, "counted rule by rule".
+    pub fn is_refused(&self, call: &Call, directives: &Directives) -> bool {
+        let (mut ranges, mut targets) = (self.before.ranges.len(), self.before.targets);
+        for index in 0..call.rules.len() {
+            for directive in directives[call.places_of(index)].iter().flatten() {
+                match directive {
+                    CtlDirective::RuleRemoveById(added) => ranges += added.len(),
+                    CtlDirective::RuleRemoveTargetById { .. } => targets += 1,
+                    _ => {}
+                }
+            }
+        }
+        ranges > MOST_RANGES || targets > MOST_TARGETS
+    }
+
+    /// Makes the call on all sides.
+    pub fn call(&mut self, call: &Call) -> Ran {
+        let rust = rust::call(&mut self.rust, call);
+        let model = self.model.call(call);
+        let mut differing = named("", rust.differing(&model));
+        let mut other = model;
+        if !self.is_planted {
+            let model = other;
+            differing = named("the model's ", rust.differing(&model));
+            let (ours, faults) = self.ours.call(call);
+            differing.extend(named("", rust.differing(&ours)));
+            differing.extend(named("", faults));
+            if ours.visits != model.visits {
+                differing.push("the journal is not the model's".to_string());
+            }
+            differing.extend(removal_fault(call, &self.before, &rust, &ours));
+            other = ours;
+        }
+        let after = Before {
+            calls: self.before.calls + 1,
+            phase: call.phase,
+            mode: rust.mode,
+            ranges: rust.ranges.clone(),
+            targets: self.before.targets + rust.targets.len(),
+            allowed: rust.allowed,
+            stopped: rust.stop != Stop::No,
+        };
+        Ran {
+            before: std::mem::replace(&mut self.before, after),
+            rust,
+            other,
+            differing,
+        }
+    }
+}
+
+fn named(whose: &str, names: Vec<&'static str>) -> Vec<String> {
+    let names = names.into_iter();
+    names.map(|name| format!("{whose}{name}")).collect()
+}
+
+/// What the Rust's ranges alone say of the journal: its indexes rise, a removed rule has its id in a range that is held
+/// after the call, and a visited rule with its id in a range held before it is removed.
+fn removal_fault(call: &Call, before: &Before, rust: &Found, ours: &Found) -> Option<String> {
+    let is_in = |ranges: &[(u64, u64)], index: u64| {
+        let is_rule = (index as usize) < call.rules.len();
+        let id = is_rule.then(|| call.id_of(index as usize)).flatten();
+        id.is_some_and(|id| {
+            ranges
+                .iter()
+                .any(|(start, end)| (*start..=*end).contains(&id))
+        })
+    };
+    let rises = ours.visits.windows(2).all(|two| two[0].0 < two[1].0);
+    let agrees = |&(index, verdict): &(u64, u64)| match verdict {
+        verdict::REMOVED => is_in(&rust.ranges, index),
+        _ => !is_in(&before.ranges, index),
+    };
+    let is_right = rises && ours.visits.iter().all(agrees);
+    (!is_right).then(|| "removed visits against the ranges".to_string())
+}

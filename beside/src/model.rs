@@ -1,0 +1,184 @@
+//! The phase call as 01 tells it, plain and slow, for a third opinion. It shares no code with the proved library or with
+//! the Rust. With a [`Reading`] it reads 01 wrongly in one place, so that the comparison can be seen to fail.
+
+mod directive;
+mod reading;
+mod unit;
+
+use crate::case::{mode, outcome, verdict, Call, Case, Entry};
+use crate::found::{Found, Stop};
+
+pub use directive::trimmed;
+pub use reading::{Reading, READINGS};
+pub use unit::is_ctl;
+
+use directive::Directive;
+use reading::Reading as R;
+
+/// A transaction and the rule set's mode and default status.
+pub struct Model {
+    reading: Option<Reading>,
+    ruleset_mode: u64,
+    status: u64,
+    held: Entry,
+}
+
+impl Model {
+    /// The transaction of a case before its first call.
+    pub fn new(case: &Case, reading: Option<Reading>) -> Self {
+        Self {
+            reading,
+            ruleset_mode: case.mode,
+            status: u64::from(case.status),
+            held: case.entry.clone(),
+        }
+    }
+
+    /// One phase call.
+    pub fn call(&mut self, call: &Call) -> Found {
+        let was_stopped = self.held.stopped;
+        let mut walk = Walk {
+            model: self,
+            call,
+            members: Vec::new(),
+            found: Found::default(),
+        };
+        if !was_stopped && !walk.model.held.allowed {
+            walk.run();
+        }
+        let mut found = walk.found;
+        if was_stopped {
+            found.stop = Stop::Held;
+        }
+        let Entry {
+            mode,
+            access,
+            processor,
+            ..
+        } = self.held;
+        (found.mode, found.access, found.processor) = (mode, access, processor);
+        found.ranges = self.held.ranges.clone();
+        found.allowed = self.held.allowed;
+        found
+    }
+
+    fn reads(&self, reading: Reading) -> bool {
+        self.reading == Some(reading)
+    }
+
+    fn mode(&self) -> u64 {
+        self.held.mode.checked_sub(1).unwrap_or(self.ruleset_mode)
+    }
+
+    /// "Both ends of a range are removed", "A rule without an id is never removed".
+    fn is_removed(&self, id: Option<u64>) -> bool {
+        let short = self.reads(R::RangeShort);
+        let covers = |id: u64, &(start, end): &(u64, u64)| {
+            start <= id && (id < end || id == end && (start == end || !short))
+        };
+        id.is_some_and(|id| self.held.ranges.iter().any(|range| covers(id, range)))
+    }
+}
+
+/// One walk over the rules of a call.
+struct Walk<'a> {
+    model: &'a mut Model,
+    call: &'a Call,
+    /// Of the open chain.
+    members: Vec<usize>,
+    found: Found,
+}
+
+impl Walk<'_> {
+    fn run(&mut self) {
+        let mut next = Some(0);
+        while let Some(index) = next {
+            if index >= self.call.rules.len() || self.model.mode() == mode::OFF {
+                return;
+            }
+            next = self.visit(index);
+        }
+    }
+
+    /// Visits a rule and gives the next index; none where the visit is the last.
+    fn visit(&mut self, index: usize) -> Option<usize> {
+        if self.model.is_removed(self.call.id_of(index)) {
+            self.note(index, verdict::REMOVED);
+            return Some(self.removed(index));
+        }
+        match self.call.outcomes[index] {
+            outcome::ERROR => {
+                self.note(index, verdict::ERROR);
+                (self.found.answer, self.found.error) = (10, Some(index as u64));
+                None
+            }
+            outcome::MISSED => {
+                self.note(index, verdict::MISSED);
+                Some(self.missed(index))
+            }
+            _ => {
+                self.note(index, verdict::MATCHED);
+                self.matched(index)
+            }
+        }
+    }
+
+    fn note(&mut self, index: usize, verdict: u64) {
+        self.found.visits.push((index as u64, verdict));
+    }
+
+    /// "A removed link breaks the open chain and passes everything through the chain's closing rule. A removed rule that is
+    /// not a link is passed alone".
+    fn removed(&mut self, index: usize) -> usize {
+        if self.model.reads(R::RemovedCloserBreaks) {
+            self.members.clear();
+        }
+        if !self.call.is_link(index) || self.model.reads(R::RemovedLinkAlone) {
+            return index + 1;
+        }
+        self.break_chain(index)
+    }
+
+    /// "A missed rule, where it is a link or a chain is open, breaks the chain and likewise passes its rest."
+    fn missed(&mut self, index: usize) -> usize {
+        if !self.call.is_link(index) && self.members.is_empty() {
+            return index + 1;
+        }
+        self.break_chain(index)
+    }
+
+    /// The index behind the closing rule of the chain that a rule is in.
+    fn break_chain(&mut self, index: usize) -> usize {
+        self.members.clear();
+        let rest = index..self.call.rules.len();
+        let closing = rest.into_iter().find(|at| !self.call.is_link(*at));
+        closing.map_or(self.call.rules.len(), |closing| closing + 1)
+    }
+
+    /// "A matched link holds its controls and waits. A matched rule that is not a link closes the unit".
+    fn matched(&mut self, index: usize) -> Option<usize> {
+        self.members.push(index);
+        if !self.call.is_link(index) {
+            return self.close();
+        }
+        if self.model.reads(R::LinkControlsEarly) {
+            self.apply_controls(index);
+        }
+        Some(index + 1)
+    }
+
+    fn apply_controls(&mut self, index: usize) {
+        let call = self.call;
+        let held = &mut self.model.held;
+        for control in call.actions_of(index).iter().filter(|a| unit::is_ctl(a)) {
+            match directive::read(call.text(control.text), call.text(control.value)) {
+                Directive::Mode(number) => held.mode = 1 + number,
+                Directive::Access(number) => held.access = 1 + number,
+                Directive::Processor(number) => held.processor = 1 + number,
+                Directive::Ranges(ranges) => held.ranges.extend(ranges),
+                Directive::Target(id, target) => self.found.targets.push((id, target)),
+                Directive::Unsupported => {}
+            }
+        }
+    }
+}
