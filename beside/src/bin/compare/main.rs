@@ -12,11 +12,9 @@
 
 mod make;
 mod numbers;
-mod ours;
 mod reached;
 mod record;
 mod run;
-mod rust;
 mod show;
 mod shrink;
 mod sides;

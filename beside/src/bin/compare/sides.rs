@@ -3,10 +3,9 @@
 use beside::case::{verdict, Call, Case};
 use beside::found::{Found, Stop};
 use beside::model::{Model, Reading};
+use beside::ours::Ours;
+use beside::rust;
 use oracle::{CtlDirective, Run};
-
-use crate::ours::Ours;
-use crate::rust;
 
 /// 01's refusals 8 and 9.
 const MOST_RANGES: usize = 256;

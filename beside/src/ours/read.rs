@@ -1,8 +1,8 @@
 //! What the numbers that a call wrote stand for.
 
-use beside::case::Call;
-use beside::found::{Built, Stop};
-use beside::model::trimmed;
+use crate::case::Call;
+use crate::found::{Built, Stop};
+use crate::model::trimmed;
 use tivembo::{Act, HostTransaction, Intervention, Place};
 
 /// A data entry. One of another phase than the call's has no rule of this call: its index is then nonsense on purpose.

@@ -1,49 +1,43 @@
 //! The largest legal calls: 512 rules that all point at 4,096 ctl actions over 65,536 bytes of text.
 
-use std::time::Instant;
+use beside::case::{kind, outcome, Call, Case};
+use tivembo::{Action, Part, Rule};
 
-use beside::{time_phase, Lent, Sums};
-
-use crate::lists;
+use crate::gateway::Gateway;
 
 const RULES: usize = 512;
 const ACTIONS: usize = 4_096;
 const BYTES: usize = 65_536;
 const ROUNDS: usize = 3;
 
-/// A text, and where the directive's name and value stand in it.
+/// A text, and where the directives' names and values stand in it.
 struct Directives {
     name: String,
     text: Vec<u8>,
-    parts: Vec<[u64; 4]>,
+    parts: Vec<[Part; 2]>,
 }
 
 /// Times all, prints, and gives the number of calls that take a second or more.
 pub fn print() -> usize {
     println!("Largest legal calls: {RULES} rules that all point at {ACTIONS} ctl actions over {BYTES} bytes of text;");
     println!("all are answered 0. Seconds of one call, the fastest of {ROUNDS}.");
-    let settings = settings();
-    let mut slow = 0;
-    slow += print_one(&settings, "all missed", 0);
-    slow += print_one(&settings, "all matched, outcome 2", 2);
-    let long = long_values();
-    slow + long
-        .iter()
-        .map(|d| print_one(d, "all missed", 0))
-        .sum::<usize>()
+    let (settings, long) = (settings(), long_values());
+    let mut slow = print_one(&settings, "all missed", outcome::MISSED);
+    slow += print_one(
+        &settings,
+        "all matched, outcome 2",
+        outcome::MATCHED_VARIABLE,
+    );
+    let missed = |directives| print_one(directives, "all missed", outcome::MISSED);
+    slow + long.iter().map(missed).sum::<usize>()
 }
 
 fn print_one(directives: &Directives, what: &str, outcome: u8) -> usize {
-    let lent = lent(directives, outcome);
-    let mut written = lists::written(RULES);
-    let mut best = f64::MAX;
-    for _ in 0..ROUNDS {
-        let begin = Instant::now();
-        let sums = time_phase(1, &lent, &mut written);
-        best = best.min(begin.elapsed().as_secs_f64());
-        let visits = RULES as u64;
-        assert_eq!(sums, Sums { answers: 0, visits });
-    }
+    let case = case(directives, outcome);
+    let mut gateway = Gateway::new(&case);
+    let rounds = (0..ROUNDS).map(|_| gateway.time(1).as_secs_f64());
+    let best = rounds.fold(f64::MAX, f64::min);
+    assert_eq!(gateway.results().visits.len(), RULES);
     println!("  {best:.4} s  {}; {what}", directives.name);
     if best >= 1.0 {
         println!("  MISSED: the bound is a second");
@@ -51,33 +45,50 @@ fn print_one(directives: &Directives, what: &str, outcome: u8) -> usize {
     usize::from(best >= 1.0)
 }
 
-fn lent(directives: &Directives, outcome: u8) -> Lent {
+fn case(directives: &Directives, outcome: u8) -> Case {
     let Directives { text, parts, .. } = directives;
     assert!(text.len() == BYTES && parts.len() == ACTIONS);
-    let rule = |id: usize| [1, id as u64, 0, 0, ACTIONS as u64];
-    let action =
-        |&[name, name_len, value, value_len]: &[u64; 4]| [19, 0, name, name_len, value, value_len];
-    Lent {
+    let rule = |id: usize| Rule {
+        present: 1,
+        id: id as u64,
+        count: ACTIONS as u64,
+        ..Rule::default()
+    };
+    let action = |&[text, value]: &[Part; 2]| Action {
+        kind: kind::CTL,
+        number: 0,
+        text,
+        value,
+    };
+    let call = Call {
         phase: 2,
-        status: 403,
-        rules: (1..=RULES).flat_map(rule).collect(),
-        actions: parts.iter().flat_map(action).collect(),
-        text: text.clone(),
+        rules: (1..=RULES).map(rule).collect(),
         outcomes: vec![outcome; RULES],
-        ..Lent::default()
+        actions: parts.iter().map(action).collect(),
+        markers: Vec::new(),
+        text: text.clone(),
+    };
+    Case {
+        status: 403,
+        calls: vec![call],
+        ..Case::default()
+    }
+}
+
+fn part(start: usize, len: usize) -> Part {
+    Part {
+        start: start as u64,
+        len: len as u64,
     }
 }
 
 /// Each action has 16 bytes of its own.
 fn settings() -> Directives {
-    let part = |k: usize| {
-        let at = 16 * k as u64;
-        [at, 10, at + 11, 5]
-    };
+    let parts = |k: usize| [part(16 * k, 10), part(16 * k + 11, 5)];
     Directives {
         name: "each has 16 bytes, ruleEngine=On".to_string(),
         text: b"ruleEngine=On   ".repeat(ACTIONS),
-        parts: (0..ACTIONS).map(part).collect(),
+        parts: (0..ACTIONS).map(parts).collect(),
     }
 }
 
@@ -100,14 +111,13 @@ fn long(what: &str, directive: &str, repeated: &str, end: &str) -> Directives {
     let room = BYTES - directive.len() - end.len();
     let filling = repeated.bytes().cycle().take(room);
     let text = directive.bytes().chain(filling).chain(end.bytes());
-    let part = |k: usize| {
+    let parts = |k: usize| {
         let start = directive.len() + k % 16 * repeated.len();
-        let [cut, start] = [directive.len(), start].map(|at| at as u64);
-        [0, cut, start, BYTES as u64 - start]
+        [part(0, directive.len()), part(start, BYTES - start)]
     };
     Directives {
         name: format!("values of all the text, {directive}: {what}"),
         text: text.collect(),
-        parts: (0..ACTIONS).map(part).collect(),
+        parts: (0..ACTIONS).map(parts).collect(),
     }
 }

@@ -1,7 +1,7 @@
 //! The published Rust's side: its rules are made from the records, each with an action list of its own.
 
-use beside::case::{kind, outcome, verdict, Call, Case};
-use beside::found::{Built, Found, Stop};
+use crate::case::{kind, outcome, verdict, Call, Case};
+use crate::found::{Built, Found, Stop};
 use oracle::{
     Action, Answer, CallResult, ControlAction, DisruptiveAction, FlowAction, Intervention,
     LoggingAction, MetadataAction, Outcome, Phase, RuleEngineMode, Run, Verdict,
@@ -16,31 +16,48 @@ const PROCESSORS: [&str; 4] = ["URLENCODED", "MULTIPART", "JSON", "XML"];
 
 /// The Rust's transaction before the first call of a case.
 pub fn run(case: &Case) -> Run {
+    Run::new(MODES[case.mode as usize], case.status, &entry(case))
+}
+
+/// One call.
+pub fn call(run: &mut Run, call: &Call) -> Found {
+    found(run.call(&given(call)))
+}
+
+/// A whole case.
+pub fn case(case: &Case) -> oracle::Case {
+    oracle::Case {
+        name: String::new(),
+        mode: MODES[case.mode as usize],
+        block_status: case.status,
+        entry: entry(case),
+        calls: case.calls.iter().map(given).collect(),
+    }
+}
+
+fn entry(case: &Case) -> oracle::Entry {
     let set = |number: u64| number.checked_sub(1).map(|at| at as usize);
-    let entry = oracle::Entry {
+    oracle::Entry {
         mode: set(case.entry.mode).map(|at| MODES[at]),
         body_access: set(case.entry.access).map(|at| at == 0),
         body_processor: set(case.entry.processor).map(|at| PROCESSORS[at].to_string()),
         ranges: case.entry.ranges.clone(),
         allowed: case.entry.allowed,
         stopped: case.entry.stopped,
-    };
-    Run::new(MODES[case.mode as usize], case.status, &entry)
+    }
 }
 
-/// One call.
-pub fn call(run: &mut Run, call: &Call) -> Found {
+fn given(call: &Call) -> oracle::Call {
     let rules = (0..call.rules.len()).map(|index| rule(call, index));
     let markers = call.markers.iter().map(|marker| oracle::Marker {
         name: string(call.text(marker.name)),
         position: marker.position as usize,
     });
-    let given = oracle::Call {
+    oracle::Call {
         phase: Phase::from_number(call.phase as u8).expect("a phase is 1 to 5"),
         rules: rules.collect(),
         markers: markers.collect(),
-    };
-    found(run.call(&given))
+    }
 }
 
 fn rule(call: &Call, index: usize) -> oracle::Rule {

@@ -2,8 +2,8 @@
 
 mod read;
 
-use beside::case::{Call, Case};
-use beside::found::Found;
+use crate::case::{Call, Case};
+use crate::found::Found;
 use tivembo::raw::{run_phase, words, Lent, Lists};
 use tivembo::{HostIntervention, HostTransaction, Place};
 
