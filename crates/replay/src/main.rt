@@ -1,0 +1,613 @@
+// Replays recorded calls of the Rust: makes each through the phase call, and compares all that was recorded of its result.
+//
+// Standard input has one case a line: decimal numbers with one blank between them, and a line end. A list is a count and its
+// items; a text is a list of bytes.
+//
+//     case     := entry calls
+//     entry    := mode access processor allowed stopped ranges
+//     ranges   := n (start end)*
+//     calls    := n call*
+//     call     := phase mode status rules actions markers text outcomes expected
+//     rules    := n (present id link first count)*
+//     actions  := n (kind number text-start text-len value-start value-len)*
+//     markers  := n (name-start name-len position)*
+//     outcomes := n outcome*
+//     expected := answer error visits ids entries mode access processor ranges targets allowed stop
+//     visits   := n (index verdict)*, without the removed: the Rust does not evaluate a removed rule
+//     ids      := n id*, those that the call added
+//     entries  := n (present id index)*, those that the call added; id 0 where there is none
+//     targets  := n (text text)*, those that the call added: rule id and target
+//     stop     := 0 none | 2 held before the call | 1 status drop url log ids phase metadata
+//     metadata := id msg logdata rev ver severity maturity accuracy
+//
+// Mode, access and processor are 0 where not set, else 1 more than their number. The ranges of a result are all that are held.
+// In a stop, url, log, msg, logdata, rev and ver are 0, or 1 and a text; id, severity, maturity and accuracy are 0, or 1 and
+// a number. At most 64 rules, 512 actions, 16 markers and 4,096 text bytes a call, 16 calls a case, 65,536 bytes a line.
+//
+// Each difference gives `case K call J: WHAT`; the end of the input, `N cases, M calls, D differences`. A line that is no case
+// gives `line K: not a case`, and nothing more is read.
+use control::Controls;
+use control::Settings;
+use libc::STDIN_FILENO;
+use libc::STDOUT_FILENO;
+use phase::Phase;
+use phase::Transaction;
+use reading::AccessSetting;
+use reading::BodyAccess;
+use reading::BodyProcessor;
+use reading::Intervention;
+use reading::ModeSetting;
+use reading::OptionIntervention;
+use reading::OptionPlace;
+use reading::OptionU64;
+use reading::ProcessorSetting;
+use reading::RuleEngineMode;
+use reading::RuleIdRange;
+use reading::RuleMetadata;
+use replay_line::Expected;
+use replay_line::Given;
+use replay_line::Line;
+ghost use Rattle.io.specs.Counts.{Counts};
+
+// How many cases, calls and differences there were, and how many calls of this case.
+struct Tally {
+    cases: u64,
+    calls: u64,
+    differences: u64,
+    call: u64,
+}
+
+// How much of the piece of the input is in use, and how far it is read.
+struct Feed {
+    at: usize,
+    len: usize,
+}
+
+// How far a case is replayed: where its next call stands, and what the calls before it left.
+struct Replayed {
+    at: usize,
+    transaction: Transaction,
+    tally: Tally,
+}
+
+fn write(text: &[u8]) {
+    io::write_all(STDOUT_FILENO, text);
+}
+
+fn write_number(n: u64) {
+    io::print_decimal(STDOUT_FILENO, n);
+}
+
+fn more(n: u64) -> u64 {
+    std::num::wrapping_add_u64(n, 1)
+}
+
+impl Tally {
+    fn with_case(mut self) -> Self {
+        self.cases = more(self.cases);
+        self.call = 0;
+        self
+    }
+
+    fn with_call(mut self) -> Self {
+        self.calls = more(self.calls);
+        self.call = more(self.call);
+        self
+    }
+
+    // Writes a difference, if it is one.
+    fn told(mut self, same: bool, what: &[u8]) -> Self {
+        if same {
+            return self;
+        }
+        write(b"case ");
+        write_number(self.cases);
+        write(b" call ");
+        write_number(self.call);
+        write(b": ");
+        write(what);
+        write(b"\n");
+        self.differences = more(self.differences);
+        self
+    }
+}
+
+fn mode_setting(n: u64) -> ModeSetting {
+    match n {
+        0 => ModeSetting::Unset,
+        1 => ModeSetting::Set(RuleEngineMode::On),
+        2 => ModeSetting::Set(RuleEngineMode::DetectionOnly),
+        _ => ModeSetting::Set(RuleEngineMode::Off),
+    }
+}
+
+fn access_setting(n: u64) -> AccessSetting {
+    match n {
+        0 => AccessSetting::Unset,
+        1 => AccessSetting::Set(BodyAccess::On),
+        _ => AccessSetting::Set(BodyAccess::Off),
+    }
+}
+
+fn processor_setting(n: u64) -> ProcessorSetting {
+    match n {
+        0 => ProcessorSetting::Unset,
+        1 => ProcessorSetting::Set(BodyProcessor::Urlencoded),
+        2 => ProcessorSetting::Set(BodyProcessor::Multipart),
+        3 => ProcessorSetting::Set(BodyProcessor::Json),
+        _ => ProcessorSetting::Set(BodyProcessor::Xml),
+    }
+}
+
+fn mode_number(mode: RuleEngineMode) -> u64 {
+    match mode {
+        RuleEngineMode::On => 1,
+        RuleEngineMode::DetectionOnly => 2,
+        RuleEngineMode::Off => 3,
+    }
+}
+
+fn access_number(access: BodyAccess) -> u64 {
+    match access {
+        BodyAccess::On => 1,
+        BodyAccess::Off => 2,
+    }
+}
+
+fn processor_number(processor: BodyProcessor) -> u64 {
+    match processor {
+        BodyProcessor::Urlencoded => 1,
+        BodyProcessor::Multipart => 2,
+        BodyProcessor::Json => 3,
+        BodyProcessor::Xml => 4,
+    }
+}
+
+fn is_mode(n: u64, setting: ModeSetting) -> bool {
+    match setting {
+        ModeSetting::Unset => n == 0,
+        ModeSetting::Set(mode) => n == mode_number(mode),
+    }
+}
+
+fn is_access(n: u64, setting: AccessSetting) -> bool {
+    match setting {
+        AccessSetting::Unset => n == 0,
+        AccessSetting::Set(access) => n == access_number(access),
+    }
+}
+
+fn is_processor(n: u64, setting: ProcessorSetting) -> bool {
+    match setting {
+        ProcessorSetting::Unset => n == 0,
+        ProcessorSetting::Set(processor) => n == processor_number(processor),
+    }
+}
+
+// The controls at entry. The ranges were tested, so none is refused here.
+fn entry_controls(list: &[u64]) -> Controls {
+    let ranges = replay_line::items(list, 5, 2);
+    let n = ranges.len() / 2;
+    let mut c = Controls::new();
+    let settings = Settings {
+        mode: mode_setting(replay_line::number_at(list, 0)),
+        access: access_setting(replay_line::number_at(list, 1)),
+        processor: processor_setting(replay_line::number_at(list, 2)),
+    };
+    c.settings = settings;
+    let mut k = 0;
+    while k < n {
+        let changed = c.remove_range(RuleIdRange {
+            start: replay_line::number_at(ranges, 2 * k),
+            end: replay_line::number_at(ranges, 2 * k + 1),
+        });
+        c = changed.controls;
+        k += 1;
+    }
+    c
+}
+
+fn no_metadata() -> RuleMetadata {
+    RuleMetadata {
+        id: OptionU64::None,
+        msg: OptionPlace::None,
+        logdata: OptionPlace::None,
+        rev: OptionPlace::None,
+        ver: OptionPlace::None,
+        severity: OptionU64::None,
+        maturity: OptionU64::None,
+        accuracy: OptionU64::None,
+    }
+}
+
+// The intervention at entry, where there is one: nothing is in it, since nothing of it is compared.
+fn entry_stop(stopped: u64) -> OptionIntervention {
+    if stopped == 0 {
+        return OptionIntervention::None;
+    }
+    OptionIntervention::Some(Intervention {
+        status: 0,
+        url: OptionPlace::None,
+        log: OptionPlace::None,
+        closing: OptionU64::None,
+        starter: OptionU64::None,
+        phase: 0,
+        drop: false,
+        metadata: no_metadata(),
+    })
+}
+
+fn entry_transaction(list: &[u64]) -> Transaction {
+    Transaction {
+        controls: entry_controls(list),
+        allowed: replay_line::number_at(list, 3) == 1,
+        intervention: entry_stop(replay_line::number_at(list, 4)),
+        ids: 0,
+        entries: 0,
+    }
+}
+
+fn narrow(n: u64) -> u8 {
+    (n % 256) as u8
+}
+
+// Copies the numbers as bytes, and answers how many there are.
+fn copy_bytes(numbers: &[u64], bytes: &mut [u8]) -> usize
+    ensures { λ r. ⌜ Counts r (now (bytes .exit)) ⌝ }
+{
+    let n = bytes.len();
+    let mut i = 0;
+    while i < n {
+        if numbers.len() <= i {
+            return i;
+        }
+        bytes[i] = narrow(replay_line::number_at(numbers, i));
+        i += 1;
+    }
+    n
+}
+
+fn is_stopped(stop: OptionIntervention) -> bool {
+    match stop {
+        OptionIntervention::None => false,
+        OptionIntervention::Some(_) => true,
+    }
+}
+
+fn same_answer(list: &[u64], at: usize, answer: u64, error: u64) -> bool {
+    let next = replay_line::same_number(list, at, answer);
+    replay_line::same_number(list, next, error) == replay_line::ahead(list, at, 2)
+}
+
+// Answer, visits, ids and data.
+fn compare_lists(
+    c: Tally,
+    list: &[u64],
+    e: Expected,
+    before: Transaction,
+    p: Phase,
+    ids: &[u64],
+    entries: &[u64],
+    journal: &[u64],
+) -> Tally {
+    let after = p.transaction;
+    let visits = replay_line::items(list, e.visits, 2);
+    let listed = replay_line::items(list, e.ids, 1);
+    let written = replay_line::items(list, e.entries, 3);
+    let mut t = c.told(same_answer(list, e.at, p.answer, p.error), b"answer");
+    t = t.told(
+        replay_line::same_visits(visits, journal, p.visits),
+        b"visits",
+    );
+    t = t.told(
+        replay_line::same_ids(listed, ids, before.ids, after.ids),
+        b"ids",
+    );
+    let same = replay_line::same_entries(written, entries, before.entries, after.entries);
+    t.told(same, b"data")
+}
+
+fn compare_settings(c: Tally, list: &[u64], at: usize, s: Settings) -> Tally {
+    let mode = s.mode;
+    let access = s.access;
+    let processor = s.processor;
+    let second = replay_line::ahead(list, at, 1);
+    let third = replay_line::ahead(list, at, 2);
+    let mut t = c.told(is_mode(replay_line::number_at(list, at), mode), b"mode");
+    t = t.told(
+        is_access(replay_line::number_at(list, second), access),
+        b"access",
+    );
+    t.told(
+        is_processor(replay_line::number_at(list, third), processor),
+        b"processor",
+    )
+}
+
+// Settings, ranges and targets. `held` targets were there before the call.
+fn compare_controls(
+    c: Tally,
+    list: &[u64],
+    g: Given,
+    e: Expected,
+    text: &[u8],
+    held: usize,
+    after: Controls,
+) -> Tally {
+    let ranges = replay_line::items(list, e.ranges, 2);
+    let actions = replay_line::items(list, g.actions, 6);
+    let phase = replay_line::number_at(list, g.at);
+    let settings = after.settings;
+    let mut t = compare_settings(c, list, e.settings, settings);
+    let same = replay_line::same_ranges(ranges, &after.starts, &after.ends, after.ranges);
+    t = t.told(same, b"ranges");
+    let end = replay_line::same_targets(
+        list,
+        e.targets,
+        &after.phases,
+        &after.positions,
+        held,
+        after.targets,
+        phase,
+        actions,
+        text,
+    );
+    t.told(end == e.allowed, b"targets")
+}
+
+// The allowed flag and the intervention.
+fn compare_end(
+    c: Tally,
+    list: &[u64],
+    g: Given,
+    e: Expected,
+    text: &[u8],
+    before: OptionIntervention,
+    after: OptionIntervention,
+    allowed: bool,
+) -> Tally {
+    let actions = replay_line::items(list, g.actions, 6);
+    let phase = replay_line::number_at(list, g.at);
+    let flag = replay_line::same_number(list, e.allowed, replay_line::flag(allowed));
+    let t = c.told(flag == e.stop, b"allowed");
+    let held = is_stopped(before);
+    let end = replay_line::same_stop(list, e.stop, held, after, phase, actions, text);
+    t.told(end == e.end, b"intervention")
+}
+
+fn compare(
+    c: Tally,
+    list: &[u64],
+    g: Given,
+    e: Expected,
+    text: &[u8],
+    before: Transaction,
+    after: Transaction,
+) -> Tally {
+    let was = before.controls;
+    let controls = after.controls;
+    let stop_before = before.intervention;
+    let stop = after.intervention;
+    let t = compare_controls(c, list, g, e, text, was.targets, controls);
+    compare_end(t, list, g, e, text, stop_before, stop, after.allowed)
+}
+
+// One call. The records are lent as they stand in the list.
+fn run_lent(
+    c: Tally,
+    list: &[u64],
+    g: Given,
+    e: Expected,
+    before: Transaction,
+    text: &[u8],
+    outcomes: &[u8],
+    ids: &mut [u64; 1024],
+    entries: &mut [u64; 4096],
+) -> Replayed {
+    let mut journal = [0u64; 128];
+    let second = replay_line::ahead(list, g.at, 1);
+    let third = replay_line::ahead(list, g.at, 2);
+    let p = transaction::run_phase(
+        before,
+        replay_line::number_at(list, g.at),
+        replay_line::number_at(list, second),
+        replay_line::number_at(list, third),
+        replay_line::items(list, g.rules, 5),
+        replay_line::items(list, g.actions, 6),
+        replay_line::items(list, g.markers, 3),
+        text,
+        outcomes,
+        ids,
+        entries,
+        &mut journal,
+    );
+    let after = p.transaction;
+    let t = compare_lists(c, list, e, before, p, ids, entries, &journal);
+    Replayed {
+        at: e.end,
+        transaction: after,
+        tally: compare(t, list, g, e, text, before, after),
+    }
+}
+
+fn run_call(
+    r: Replayed,
+    list: &[u64],
+    ids: &mut [u64; 1024],
+    entries: &mut [u64; 4096],
+) -> Replayed {
+    let before = r.transaction;
+    let tally = r.tally;
+    let mut text = [0u8; 4096];
+    let mut outcomes = [0u8; 64];
+    let g = replay_line::given_at(list, r.at);
+    let e = replay_line::expected_at(list, g.end);
+    let n = copy_bytes(replay_line::items(list, g.text, 1), &mut text);
+    let m = copy_bytes(replay_line::items(list, g.outcomes, 1), &mut outcomes);
+    let c = tally.with_call();
+    run_lent(
+        c,
+        list,
+        g,
+        e,
+        before,
+        &text[..n],
+        &outcomes[..m],
+        ids,
+        entries,
+    )
+}
+
+// A case: its calls go on with one transaction. The lists are long enough for 16 calls of 64 rules.
+fn run_case(c: Tally, list: &[u64]) -> Tally {
+    let mut ids = [0u64; 1024];
+    let mut entries = [0u64; 4096];
+    let calls = replay_line::calls_at(list);
+    let n = replay_line::number_at(list, calls);
+    let mut r = Replayed {
+        at: replay_line::ahead(list, calls, 1),
+        transaction: entry_transaction(list),
+        tally: c.with_case(),
+    };
+    let mut k = 0;
+    while k < n {
+        r = run_call(r, list, &mut ids, &mut entries);
+        k += 1;
+    }
+    r.tally
+}
+
+// How far the input is read: the feed, the line, and whether the input ended.
+struct Read {
+    feed: Feed,
+    line: Line,
+    ended: bool,
+}
+
+// Reads the next piece where the last is used up.
+fn filled(f: Feed, piece: &mut [u8; 4096]) -> Feed {
+    if f.at < f.len {
+        return f;
+    }
+    Feed {
+        at: 0,
+        len: io::read_full(STDIN_FILENO, piece),
+    }
+}
+
+fn read_byte(r: Read, piece: &mut [u8; 4096], numbers: &mut [u64; 32768]) -> Read {
+    let feed = r.feed;
+    let line = r.line;
+    let f = filled(feed, piece);
+    let at = f.at;
+    if f.len <= at || 4095 < at {
+        return Read {
+            feed: f,
+            line,
+            ended: true,
+        };
+    }
+    Read {
+        feed: Feed {
+            at: at + 1,
+            len: f.len,
+        },
+        line: line.with_byte(piece[at], numbers),
+        ended: false,
+    }
+}
+
+fn is_over(r: Read) -> bool {
+    let line = r.line;
+    r.ended || line.bad || line.done
+}
+
+// One line, or as much of it as is none; its numbers go to the start of the list.
+fn read_line(feed: Feed, piece: &mut [u8; 4096], numbers: &mut [u64; 32768]) -> Read {
+    let mut r = Read {
+        feed,
+        line: replay_line::new_line(),
+        ended: false,
+    };
+    let mut left: u64 = 65537;
+    while 0 < left {
+        r = read_byte(r, piece, numbers);
+        if is_over(r) {
+            return r;
+        }
+        left -= 1;
+    }
+    r
+}
+
+// The first numbers of a list.
+fn cut(numbers: &[u64], n: usize) -> &[u64] {
+    let end = numbers.len();
+    if end < n {
+        return &numbers[end..];
+    }
+    &numbers[0..n]
+}
+
+// Whether the input ended, and not within a line.
+fn is_end(r: Read) -> bool {
+    let line = r.line;
+    r.ended && line.bytes == 0
+}
+
+fn is_good(line: Line, numbers: &[u64; 32768]) -> bool {
+    if !line.done {
+        return false;
+    }
+    if line.bad {
+        return false;
+    }
+    replay_line::is_case(cut(numbers, line.numbers))
+}
+
+fn run_line(c: Tally, line: Line, numbers: &[u64; 32768]) -> Tally {
+    run_case(c, cut(numbers, line.numbers))
+}
+
+fn write_sum(c: Tally) {
+    write_number(c.cases);
+    write(b" cases, ");
+    write_number(c.calls);
+    write(b" calls, ");
+    write_number(c.differences);
+    write(b" differences\n");
+}
+
+fn write_bad(line: u64) {
+    write(b"line ");
+    write_number(line);
+    write(b": not a case\n");
+}
+
+fn main() {
+    let mut piece = [0u8; 4096];
+    let mut numbers = [0u64; 32768];
+    let mut feed = Feed { at: 0, len: 0 };
+    let mut tally = Tally {
+        cases: 0,
+        calls: 0,
+        differences: 0,
+        call: 0,
+    };
+    let mut left: u64 = 18446744073709551615;
+    while 0 < left {
+        let r = read_line(feed, &mut piece, &mut numbers);
+        let line = r.line;
+        if is_end(r) {
+            write_sum(tally);
+            return;
+        }
+        if !is_good(line, &numbers) {
+            write_bad(more(tally.cases));
+            return;
+        }
+        tally = run_line(tally, line, &numbers);
+        feed = r.feed;
+        left -= 1;
+    }
+}
