@@ -45,9 +45,7 @@ use reading::RuleEngineMode;
 use reading::RuleIdRange;
 use reading::RuleMetadata;
 use replay_line::Expected;
-use replay_line::Given;
 use replay_line::Line;
-ghost use Rattle.io.specs.Counts.{Counts};
 
 // How many cases, calls and differences there were, and how many calls of this case.
 struct Tally {
@@ -163,6 +161,10 @@ fn processor_number(processor: BodyProcessor) -> u64 {
     }
 }
 
+fn is_flag(n: u64, flag: bool) -> bool {
+    if flag { n == 1 } else { n == 0 }
+}
+
 fn is_mode(n: u64, setting: ModeSetting) -> bool {
     match setting {
         ModeSetting::Unset => n == 0,
@@ -184,17 +186,18 @@ fn is_processor(n: u64, setting: ProcessorSetting) -> bool {
     }
 }
 
-// The controls at entry. The ranges were tested, so none is refused here.
-fn entry_controls(list: &[u64]) -> Controls {
-    let ranges = replay_line::items(list, 5, 2);
-    let n = ranges.len() / 2;
-    let mut c = Controls::new();
-    let settings = Settings {
+fn entry_settings(list: &[u64]) -> Settings {
+    Settings {
         mode: mode_setting(replay_line::number_at(list, 0)),
         access: access_setting(replay_line::number_at(list, 1)),
         processor: processor_setting(replay_line::number_at(list, 2)),
-    };
-    c.settings = settings;
+    }
+}
+
+// The ranges at the end of the controls. They were tested, so none is refused here.
+fn with_ranges(controls: Controls, ranges: &[u64]) -> Controls {
+    let n = ranges.len() / 2;
+    let mut c = controls;
     let mut k = 0;
     while k < n {
         let changed = c.remove_range(RuleIdRange {
@@ -205,6 +208,13 @@ fn entry_controls(list: &[u64]) -> Controls {
         k += 1;
     }
     c
+}
+
+fn entry_controls(list: &[u64]) -> Controls {
+    let mut c = Controls::new();
+    let settings = entry_settings(list);
+    c.settings = settings;
+    with_ranges(c, replay_line::items(list, 5, 2))
 }
 
 fn no_metadata() -> RuleMetadata {
@@ -247,36 +257,11 @@ fn entry_transaction(list: &[u64]) -> Transaction {
     }
 }
 
-fn narrow(n: u64) -> u8 {
-    (n % 256) as u8
-}
-
-// Copies the numbers as bytes, and answers how many there are.
-fn copy_bytes(numbers: &[u64], bytes: &mut [u8]) -> usize
-    ensures { λ r. ⌜ Counts r (now (bytes .exit)) ⌝ }
-{
-    let n = bytes.len();
-    let mut i = 0;
-    while i < n {
-        if numbers.len() <= i {
-            return i;
-        }
-        bytes[i] = narrow(replay_line::number_at(numbers, i));
-        i += 1;
-    }
-    n
-}
-
 fn is_stopped(stop: OptionIntervention) -> bool {
     match stop {
         OptionIntervention::None => false,
         OptionIntervention::Some(_) => true,
     }
-}
-
-fn same_answer(list: &[u64], at: usize, answer: u64, error: u64) -> bool {
-    let next = replay_line::same_number(list, at, answer);
-    replay_line::same_number(list, next, error) == replay_line::ahead(list, at, 2)
 }
 
 // Answer, visits, ids and data.
@@ -290,58 +275,48 @@ fn compare_lists(
     entries: &[u64],
     journal: &[u64],
 ) -> Tally {
-    let after = p.transaction;
     let visits = replay_line::items(list, e.visits, 2);
     let listed = replay_line::items(list, e.ids, 1);
     let written = replay_line::items(list, e.entries, 3);
-    let mut t = c.told(same_answer(list, e.at, p.answer, p.error), b"answer");
+    let ids_after = p.transaction.ids;
+    let entries_after = p.transaction.entries;
+    let mut t = c.told(p.answer == e.answer && p.error == e.error, b"answer");
     t = t.told(
         replay_line::same_visits(visits, journal, p.visits),
         b"visits",
     );
     t = t.told(
-        replay_line::same_ids(listed, ids, before.ids, after.ids),
+        replay_line::same_ids(listed, ids, before.ids, ids_after),
         b"ids",
     );
-    let same = replay_line::same_entries(written, entries, before.entries, after.entries);
+    let same = replay_line::same_entries(written, entries, before.entries, entries_after);
     t.told(same, b"data")
 }
 
-fn compare_settings(c: Tally, list: &[u64], at: usize, s: Settings) -> Tally {
+fn compare_settings(c: Tally, e: Expected, s: Settings) -> Tally {
     let mode = s.mode;
     let access = s.access;
     let processor = s.processor;
-    let second = replay_line::ahead(list, at, 1);
-    let third = replay_line::ahead(list, at, 2);
-    let mut t = c.told(is_mode(replay_line::number_at(list, at), mode), b"mode");
-    t = t.told(
-        is_access(replay_line::number_at(list, second), access),
-        b"access",
-    );
-    t.told(
-        is_processor(replay_line::number_at(list, third), processor),
-        b"processor",
-    )
+    let mut t = c.told(is_mode(e.mode, mode), b"mode");
+    t = t.told(is_access(e.access, access), b"access");
+    t.told(is_processor(e.processor, processor), b"processor")
 }
 
-// Settings, ranges and targets. `held` targets were there before the call.
+// Ranges and targets. `held` targets were there before the call.
 fn compare_controls(
     c: Tally,
     list: &[u64],
-    g: Given,
     e: Expected,
-    text: &[u8],
     held: usize,
     after: Controls,
+    phase: u64,
+    actions: &[u64],
+    text: &[u8],
 ) -> Tally {
     let ranges = replay_line::items(list, e.ranges, 2);
-    let actions = replay_line::items(list, g.actions, 6);
-    let phase = replay_line::number_at(list, g.at);
-    let settings = after.settings;
-    let mut t = compare_settings(c, list, e.settings, settings);
     let same = replay_line::same_ranges(ranges, &after.starts, &after.ends, after.ranges);
-    t = t.told(same, b"ranges");
-    let end = replay_line::same_targets(
+    let t = c.told(same, b"ranges");
+    let same_targets = replay_line::same_targets(
         list,
         e.targets,
         &after.phases,
@@ -352,114 +327,82 @@ fn compare_controls(
         actions,
         text,
     );
-    t.told(end == e.allowed, b"targets")
+    t.told(same_targets, b"targets")
 }
 
-// The allowed flag and the intervention.
-fn compare_end(
-    c: Tally,
-    list: &[u64],
-    g: Given,
-    e: Expected,
-    text: &[u8],
-    before: OptionIntervention,
-    after: OptionIntervention,
-    allowed: bool,
-) -> Tally {
-    let actions = replay_line::items(list, g.actions, 6);
-    let phase = replay_line::number_at(list, g.at);
-    let flag = replay_line::same_number(list, e.allowed, replay_line::flag(allowed));
-    let t = c.told(flag == e.stop, b"allowed");
-    let held = is_stopped(before);
-    let end = replay_line::same_stop(list, e.stop, held, after, phase, actions, text);
-    t.told(end == e.end, b"intervention")
-}
-
+// What the transaction holds after the call.
 fn compare(
     c: Tally,
     list: &[u64],
-    g: Given,
     e: Expected,
-    text: &[u8],
     before: Transaction,
     after: Transaction,
+    phase: u64,
+    actions: &[u64],
+    text: &[u8],
 ) -> Tally {
-    let was = before.controls;
+    let held = before.controls.targets;
     let controls = after.controls;
+    let settings = controls.settings;
     let stop_before = before.intervention;
     let stop = after.intervention;
-    let t = compare_controls(c, list, g, e, text, was.targets, controls);
-    compare_end(t, list, g, e, text, stop_before, stop, after.allowed)
+    let stopped = is_stopped(stop_before);
+    let mut t = compare_settings(c, e, settings);
+    t = compare_controls(t, list, e, held, controls, phase, actions, text);
+    t = t.told(is_flag(e.allowed, after.allowed), b"allowed");
+    let same = replay_line::same_stop(list, e.stop, stopped, stop, phase, actions, text);
+    t.told(same, b"intervention")
 }
 
-// One call. The records are lent as they stand in the list.
-fn run_lent(
-    c: Tally,
-    list: &[u64],
-    g: Given,
-    e: Expected,
-    before: Transaction,
-    text: &[u8],
-    outcomes: &[u8],
-    ids: &mut [u64; 1024],
-    entries: &mut [u64; 4096],
-) -> Replayed {
-    let mut journal = [0u64; 128];
-    let second = replay_line::ahead(list, g.at, 1);
-    let third = replay_line::ahead(list, g.at, 2);
-    let p = transaction::run_phase(
-        before,
-        replay_line::number_at(list, g.at),
-        replay_line::number_at(list, second),
-        replay_line::number_at(list, third),
-        replay_line::items(list, g.rules, 5),
-        replay_line::items(list, g.actions, 6),
-        replay_line::items(list, g.markers, 3),
-        text,
-        outcomes,
-        ids,
-        entries,
-        &mut journal,
-    );
-    let after = p.transaction;
-    let t = compare_lists(c, list, e, before, p, ids, entries, &journal);
-    Replayed {
-        at: e.end,
-        transaction: after,
-        tally: compare(t, list, g, e, text, before, after),
-    }
-}
-
+// One call. The records are lent as they stand in the list, text and outcomes as they stand in the bytes.
 fn run_call(
     r: Replayed,
     list: &[u64],
+    bytes: &[u8],
     ids: &mut [u64; 1024],
     entries: &mut [u64; 4096],
 ) -> Replayed {
     let before = r.transaction;
     let tally = r.tally;
-    let mut text = [0u8; 4096];
-    let mut outcomes = [0u8; 64];
+    let mut journal = [0u64; 128];
     let g = replay_line::given_at(list, r.at);
     let e = replay_line::expected_at(list, g.end);
-    let n = copy_bytes(replay_line::items(list, g.text, 1), &mut text);
-    let m = copy_bytes(replay_line::items(list, g.outcomes, 1), &mut outcomes);
-    let c = tally.with_call();
-    run_lent(
-        c,
-        list,
-        g,
-        e,
+    let actions = replay_line::items(list, g.actions, 6);
+    let text = replay_line::bytes_of(list, bytes, g.text);
+    let p = transaction::run_phase(
         before,
-        &text[..n],
-        &outcomes[..m],
+        g.phase,
+        g.mode,
+        g.status,
+        replay_line::items(list, g.rules, 5),
+        actions,
+        replay_line::items(list, g.markers, 3),
+        text,
+        replay_line::bytes_of(list, bytes, g.outcomes),
         ids,
         entries,
-    )
+        &mut journal,
+    );
+    let after = p.transaction;
+    let t = compare_lists(
+        tally.with_call(),
+        list,
+        e,
+        before,
+        p,
+        ids,
+        entries,
+        &journal,
+    );
+    Replayed {
+        at: e.end,
+        transaction: after,
+        tally: compare(t, list, e, before, after, g.phase, actions, text),
+    }
 }
 
 // A case: its calls go on with one transaction. The lists are long enough for 16 calls of 64 rules.
-fn run_case(c: Tally, list: &[u64]) -> Tally {
+fn run_case(c: Tally, list: &[u64], bytes: &[u8]) -> Tally {
     let mut ids = [0u64; 1024];
     let mut entries = [0u64; 4096];
     let calls = replay_line::calls_at(list);
@@ -471,7 +414,7 @@ fn run_case(c: Tally, list: &[u64]) -> Tally {
     };
     let mut k = 0;
     while k < n {
-        r = run_call(r, list, &mut ids, &mut entries);
+        r = run_call(r, list, bytes, &mut ids, &mut entries);
         k += 1;
     }
     r.tally
@@ -495,7 +438,12 @@ fn filled(f: Feed, piece: &mut [u8; 4096]) -> Feed {
     }
 }
 
-fn read_byte(r: Read, piece: &mut [u8; 4096], numbers: &mut [u64; 32768]) -> Read {
+fn read_byte(
+    r: Read,
+    piece: &mut [u8; 4096],
+    numbers: &mut [u64; 32768],
+    bytes: &mut [u8; 32768],
+) -> Read {
     let feed = r.feed;
     let line = r.line;
     let f = filled(feed, piece);
@@ -512,7 +460,7 @@ fn read_byte(r: Read, piece: &mut [u8; 4096], numbers: &mut [u64; 32768]) -> Rea
             at: at + 1,
             len: f.len,
         },
-        line: line.with_byte(piece[at], numbers),
+        line: line.with_byte(piece[at], numbers, bytes),
         ended: false,
     }
 }
@@ -522,8 +470,13 @@ fn is_over(r: Read) -> bool {
     r.ended || line.bad || line.done
 }
 
-// One line, or as much of it as is none; its numbers go to the start of the list.
-fn read_line(feed: Feed, piece: &mut [u8; 4096], numbers: &mut [u64; 32768]) -> Read {
+// One line, or as much of it as is none; its numbers go to the start of both lists.
+fn read_line(
+    feed: Feed,
+    piece: &mut [u8; 4096],
+    numbers: &mut [u64; 32768],
+    bytes: &mut [u8; 32768],
+) -> Read {
     let mut r = Read {
         feed,
         line: replay_line::new_line(),
@@ -531,7 +484,7 @@ fn read_line(feed: Feed, piece: &mut [u8; 4096], numbers: &mut [u64; 32768]) -> 
     };
     let mut left: u64 = 65537;
     while 0 < left {
-        r = read_byte(r, piece, numbers);
+        r = read_byte(r, piece, numbers, bytes);
         if is_over(r) {
             return r;
         }
@@ -565,8 +518,8 @@ fn is_good(line: Line, numbers: &[u64; 32768]) -> bool {
     replay_line::is_case(cut(numbers, line.numbers))
 }
 
-fn run_line(c: Tally, line: Line, numbers: &[u64; 32768]) -> Tally {
-    run_case(c, cut(numbers, line.numbers))
+fn run_line(c: Tally, line: Line, numbers: &[u64; 32768], bytes: &[u8; 32768]) -> Tally {
+    run_case(c, cut(numbers, line.numbers), bytes)
 }
 
 fn write_sum(c: Tally) {
@@ -587,6 +540,7 @@ fn write_bad(line: u64) {
 fn main() {
     let mut piece = [0u8; 4096];
     let mut numbers = [0u64; 32768];
+    let mut bytes = [0u8; 32768];
     let mut feed = Feed { at: 0, len: 0 };
     let mut tally = Tally {
         cases: 0,
@@ -596,7 +550,7 @@ fn main() {
     };
     let mut left: u64 = 18446744073709551615;
     while 0 < left {
-        let r = read_line(feed, &mut piece, &mut numbers);
+        let r = read_line(feed, &mut piece, &mut numbers, &mut bytes);
         let line = r.line;
         if is_end(r) {
             write_sum(tally);
@@ -606,7 +560,7 @@ fn main() {
             write_bad(more(tally.cases));
             return;
         }
-        tally = run_line(tally, line, &numbers);
+        tally = run_line(tally, line, &numbers, &bytes);
         feed = r.feed;
         left -= 1;
     }

@@ -25,9 +25,11 @@ pub struct Line {
     pub done: bool,
 }
 
-// Where the parts of a call stand that the phase call is lent. Phase, mode and status stand at `at`.
+// What the phase call is lent: three numbers, and where the lists stand.
 pub struct Given {
-    pub at: usize,
+    pub phase: u64,
+    pub mode: u64,
+    pub status: u64,
     pub rules: usize,
     pub actions: usize,
     pub markers: usize,
@@ -36,16 +38,19 @@ pub struct Given {
     pub end: usize,
 }
 
-// Where the parts of the expected result stand. Answer and error stand at `at`; mode, access and processor at `settings`.
+// The expected result: its numbers, and where the lists and the stop stand.
 pub struct Expected {
-    pub at: usize,
+    pub answer: u64,
+    pub error: u64,
+    pub mode: u64,
+    pub access: u64,
+    pub processor: u64,
+    pub allowed: u64,
     pub visits: usize,
     pub ids: usize,
     pub entries: usize,
-    pub settings: usize,
     pub ranges: usize,
     pub targets: usize,
-    pub allowed: usize,
     pub stop: usize,
     pub end: usize,
 }
@@ -59,6 +64,10 @@ pub fn new_line() -> Line {
         bad: false,
         done: false,
     }
+}
+
+fn narrow(n: u64) -> u8 {
+    (n % 256) as u8
 }
 
 impl Line {
@@ -84,8 +93,8 @@ impl Line {
         self
     }
 
-    // The number is whole.
-    fn with_number(mut self, numbers: &mut [u64; 32768]) -> Self {
+    // The number is whole. It goes to the end of both lists.
+    fn with_number(mut self, numbers: &mut [u64; 32768], bytes: &mut [u8; 32768]) -> Self {
         let n = self.numbers;
         if 32767 < n {
             return self.spoilt();
@@ -94,6 +103,7 @@ impl Line {
             return self.spoilt();
         }
         numbers[n] = self.value;
+        bytes[n] = narrow(self.value);
         self.numbers = n + 1;
         self.value = 0;
         self.begun = false;
@@ -105,11 +115,11 @@ impl Line {
         self
     }
 
-    // One byte more; a line has at most 65,536 before its end.
-    pub fn with_byte(mut self, b: u8, numbers: &mut [u64; 32768]) -> Self {
+    // One byte more; a line has at most 65,536 before its end. `bytes` gets the numbers as bytes: a text is lent from there.
+    pub fn with_byte(mut self, b: u8, numbers: &mut [u64; 32768], bytes: &mut [u8; 32768]) -> Self {
         let n = self.bytes;
         if b == 10 {
-            let whole = self.with_number(numbers);
+            let whole = self.with_number(numbers, bytes);
             return whole.finished();
         }
         if 65535 < n {
@@ -117,7 +127,7 @@ impl Line {
         }
         self.bytes = n + 1;
         if b == b' ' {
-            return self.with_number(numbers);
+            return self.with_number(numbers, bytes);
         }
         if b < 48 {
             return self.spoilt();
@@ -142,6 +152,11 @@ pub fn ahead(list: &[u64], at: usize, n: usize) -> usize {
     at + n
 }
 
+// The number behind `n` others.
+fn number_after(list: &[u64], at: usize, n: usize) -> u64 {
+    number_at(list, ahead(list, at, n))
+}
+
 // How many numbers `n` records have, of 1, 2, 3, 5 or 6 each.
 fn size(n: u64, width: u64) -> usize {
     if 65536 < n {
@@ -164,7 +179,7 @@ fn size(n: u64, width: u64) -> usize {
 }
 
 // Past a list: a count, `most` at most, and so many records.
-pub fn past(list: &[u64], at: usize, width: u64, most: u64) -> usize {
+fn past(list: &[u64], at: usize, width: u64, most: u64) -> usize {
     let n = number_at(list, at);
     if most < n {
         return NOWHERE;
@@ -191,6 +206,20 @@ pub fn items(list: &[u64], at: usize, width: u64) -> &[u64] {
     &list[start..end]
 }
 
+// The same for a list of bytes, lent from the line's bytes.
+pub fn bytes_of<'a>(list: &[u64], bytes: &'a [u8], at: usize) -> &'a [u8] {
+    let n = bytes.len();
+    let start = ahead(list, at, 1);
+    let end = past_all(list, at, 1);
+    if n < end {
+        return &bytes[n..];
+    }
+    if end < start {
+        return &bytes[n..];
+    }
+    &bytes[start..end]
+}
+
 pub fn given_at(list: &[u64], at: usize) -> Given {
     let rules = ahead(list, at, 3);
     let actions = past(list, rules, 5, 64);
@@ -198,7 +227,9 @@ pub fn given_at(list: &[u64], at: usize) -> Given {
     let text = past(list, markers, 3, 16);
     let outcomes = past(list, text, 1, 4096);
     Given {
-        at,
+        phase: number_at(list, at),
+        mode: number_after(list, at, 1),
+        status: number_after(list, at, 2),
         rules,
         actions,
         markers,
@@ -277,14 +308,17 @@ pub fn expected_at(list: &[u64], at: usize) -> Expected {
     let allowed = past_targets(list, targets);
     let stop = ahead(list, allowed, 1);
     Expected {
-        at,
+        answer: number_at(list, at),
+        error: number_after(list, at, 1),
+        mode: number_at(list, settings),
+        access: number_after(list, settings, 1),
+        processor: number_after(list, settings, 2),
+        allowed: number_at(list, allowed),
         visits,
         ids,
         entries,
-        settings,
         ranges,
         targets,
-        allowed,
         stop,
         end: past_stop(list, stop),
     }
@@ -371,7 +405,7 @@ pub fn is_case(list: &[u64]) -> bool {
 }
 
 // Past a number that is `n`.
-pub fn same_number(list: &[u64], at: usize, n: u64) -> usize {
+fn same_number(list: &[u64], at: usize, n: u64) -> usize {
     if at < list.len() {
         if list[at] == n {
             return at + 1;
@@ -485,7 +519,7 @@ fn same_stop_ids(list: &[u64], at: usize, closing: OptionU64, starter: OptionU64
     same_if_some(list, same_if_some(list, first, closing), starter)
 }
 
-pub fn flag(b: bool) -> u64 {
+fn flag(b: bool) -> u64 {
     if b { 1 } else { 0 }
 }
 
@@ -511,7 +545,7 @@ fn same_intervention(
 }
 
 // Past the stop of a call: what the transaction holds after it, and whether it held one before.
-pub fn same_stop(
+fn past_same_stop(
     list: &[u64],
     at: usize,
     before: bool,
@@ -530,6 +564,19 @@ pub fn same_stop(
             }
         }
     }
+}
+
+// Whether the recorded stop is that.
+pub fn same_stop(
+    list: &[u64],
+    at: usize,
+    before: bool,
+    after: OptionIntervention,
+    phase: u64,
+    actions: &[u64],
+    text: &[u8],
+) -> bool {
+    past_same_stop(list, at, before, after, phase, actions, text) != NOWHERE
 }
 
 // Past the two texts of a target: the sides of the first ';' in its action's value.
@@ -555,7 +602,7 @@ fn same_target(
     same_text(list, next, text::trimmed(&value[cut + 1..]))
 }
 
-// Past the targets from the index `from` up to `to`.
+// Whether the recorded targets are those from the index `from` up to `to`.
 pub fn same_targets<'a>(
     list: &[u64],
     at: usize,
@@ -566,9 +613,9 @@ pub fn same_targets<'a>(
     phase: u64,
     actions: &[u64],
     text: &[u8],
-) -> usize {
+) -> bool {
     if to < from {
-        return NOWHERE;
+        return false;
     }
     let mut next = same_number(list, at, (to - from) as u64);
     let mut k = from;
@@ -580,7 +627,7 @@ pub fn same_targets<'a>(
         next = same_target(list, next, p, phase, actions, text);
         k += 1;
     }
-    next
+    next != NOWHERE
 }
 
 // Past an entry of the journal; a removed one is not recorded.

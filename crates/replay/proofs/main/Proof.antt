@@ -5,10 +5,10 @@ use Rattle.replay.proofs.main.Statement.{statement}
 use Rattle.replay.proofs.main.Tie as tie
 
 abbrev Inv-loop : tie.InvT-loop
-Inv-loop piece₀ numbers₀ feed₀ tally₀ left₀ piece numbers feed tally left = Unit {0}
+Inv-loop piece₀ numbers₀ bytes₀ feed₀ tally₀ left₀ piece numbers bytes feed tally left = Unit {0}
 
 abbrev μ-loop : tie.MeasureT-loop
-μ-loop piece₀ numbers₀ feed₀ tally₀ left₀ piece numbers feed tally left = left
+μ-loop piece₀ numbers₀ bytes₀ feed₀ tally₀ left₀ piece numbers bytes feed tally left = left
 
 loop-holds : tie.Need-loop-holds Inv-loop μ-loop
 loop-holds c = tt

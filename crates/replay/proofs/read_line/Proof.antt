@@ -5,10 +5,10 @@ use Rattle.replay.proofs.read_line.Statement.{statement}
 use Rattle.replay.proofs.read_line.Tie as tie
 
 abbrev Inv-loop : tie.InvT-loop
-Inv-loop piece₀ numbers₀ r₀ left₀ piece numbers r left = Unit {0}
+Inv-loop piece₀ numbers₀ bytes₀ r₀ left₀ piece numbers bytes r left = Unit {0}
 
 abbrev μ-loop : tie.MeasureT-loop
-μ-loop piece₀ numbers₀ r₀ left₀ piece numbers r left = left
+μ-loop piece₀ numbers₀ bytes₀ r₀ left₀ piece numbers bytes r left = left
 
 new-line-requires : tie.Need-new-line-requires Inv-loop μ-loop
 new-line-requires c κs = search needs

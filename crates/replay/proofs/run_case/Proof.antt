@@ -6,10 +6,10 @@ use Rattle.replay.proofs.run_case.Statement.{statement}
 use Rattle.replay.proofs.run_case.Tie as tie
 
 abbrev Inv-loop : tie.InvT-loop
-Inv-loop list ids₀ entries₀ calls n r₀ k₀ ids entries r k = Unit {0}
+Inv-loop list bytes ids₀ entries₀ calls n r₀ k₀ ids entries r k = Unit {0}
 
 abbrev μ-loop : tie.MeasureT-loop
-μ-loop list ids₀ entries₀ calls n r₀ k₀ ids entries r k = n - k
+μ-loop list bytes ids₀ entries₀ calls n r₀ k₀ ids entries r k = n - k
 
 calls-at-requires : tie.Need-calls-at-requires Inv-loop μ-loop
 calls-at-requires c κs = search needs
