@@ -45,6 +45,7 @@ use reading::RuleEngineMode;
 use reading::RuleIdRange;
 use reading::RuleMetadata;
 use replay_line::Expected;
+use replay_line::Given;
 use replay_line::Line;
 
 // How many cases, calls and differences there were, and how many calls of this case.
@@ -330,31 +331,72 @@ fn compare_controls(
     t.told(same_targets, b"targets")
 }
 
-// What the transaction holds after the call.
-fn compare(
+// The allowed flag and the intervention.
+fn compare_end(
     c: Tally,
     list: &[u64],
     e: Expected,
-    before: Transaction,
+    before: OptionIntervention,
     after: Transaction,
     phase: u64,
     actions: &[u64],
     text: &[u8],
 ) -> Tally {
-    let held = before.controls.targets;
-    let controls = after.controls;
-    let settings = controls.settings;
-    let stop_before = before.intervention;
+    let held = is_stopped(before);
     let stop = after.intervention;
-    let stopped = is_stopped(stop_before);
-    let mut t = compare_settings(c, e, settings);
-    t = compare_controls(t, list, e, held, controls, phase, actions, text);
-    t = t.told(is_flag(e.allowed, after.allowed), b"allowed");
-    let same = replay_line::same_stop(list, e.stop, stopped, stop, phase, actions, text);
+    let t = c.told(is_flag(e.allowed, after.allowed), b"allowed");
+    let same = replay_line::same_stop(list, e.stop, held, stop, phase, actions, text);
     t.told(same, b"intervention")
 }
 
-// One call. The records are lent as they stand in the list, text and outcomes as they stand in the bytes.
+// What the transaction holds after the call.
+fn compare(
+    c: Tally,
+    list: &[u64],
+    bytes: &[u8],
+    g: Given,
+    e: Expected,
+    before: Transaction,
+    after: Transaction,
+) -> Tally {
+    let actions = replay_line::items(list, g.actions, 6);
+    let text = replay_line::bytes_of(list, bytes, g.text);
+    let held = before.controls.targets;
+    let stop = before.intervention;
+    let controls = after.controls;
+    let settings = controls.settings;
+    let mut t = compare_settings(c, e, settings);
+    t = compare_controls(t, list, e, held, controls, g.phase, actions, text);
+    compare_end(t, list, e, stop, after, g.phase, actions, text)
+}
+
+// The phase call. The records are lent as they stand in the list, text and outcomes as they stand in the bytes.
+fn run_given(
+    t: Transaction,
+    list: &[u64],
+    bytes: &[u8],
+    g: Given,
+    ids: &mut [u64],
+    entries: &mut [u64],
+    journal: &mut [u64],
+) -> Phase {
+    transaction::run_phase(
+        t,
+        g.phase,
+        g.mode,
+        g.status,
+        replay_line::items(list, g.rules, 5),
+        replay_line::items(list, g.actions, 6),
+        replay_line::items(list, g.markers, 3),
+        replay_line::bytes_of(list, bytes, g.text),
+        replay_line::bytes_of(list, bytes, g.outcomes),
+        ids,
+        entries,
+        journal,
+    )
+}
+
+// One call, and what it gave beside what is recorded.
 fn run_call(
     r: Replayed,
     list: &[u64],
@@ -367,22 +409,7 @@ fn run_call(
     let mut journal = [0u64; 128];
     let g = replay_line::given_at(list, r.at);
     let e = replay_line::expected_at(list, g.end);
-    let actions = replay_line::items(list, g.actions, 6);
-    let text = replay_line::bytes_of(list, bytes, g.text);
-    let p = transaction::run_phase(
-        before,
-        g.phase,
-        g.mode,
-        g.status,
-        replay_line::items(list, g.rules, 5),
-        actions,
-        replay_line::items(list, g.markers, 3),
-        text,
-        replay_line::bytes_of(list, bytes, g.outcomes),
-        ids,
-        entries,
-        &mut journal,
-    );
+    let p = run_given(before, list, bytes, g, ids, entries, &mut journal);
     let after = p.transaction;
     let t = compare_lists(
         tally.with_call(),
@@ -397,7 +424,7 @@ fn run_call(
     Replayed {
         at: e.end,
         transaction: after,
-        tally: compare(t, list, e, before, after, g.phase, actions, text),
+        tally: compare(t, list, bytes, g, e, before, after),
     }
 }
 
