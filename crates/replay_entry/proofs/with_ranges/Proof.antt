@@ -2,8 +2,8 @@
 use borrow.Author.Needs.{needs}
 use Prim.Native.Nat.{_-_}
 use native.Mathlib.Omega.{arith}
-use Rattle.replay.proofs.with_ranges.Statement.{statement}
-use Rattle.replay.proofs.with_ranges.Tie as tie
+use Rattle.replay_entry.proofs.with_ranges.Statement.{statement}
+use Rattle.replay_entry.proofs.with_ranges.Tie as tie
 
 abbrev Inv-loop : tie.InvT-loop
 Inv-loop ranges n c₀ k₀ c k = Unit {0}
