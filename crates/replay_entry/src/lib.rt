@@ -11,7 +11,6 @@ use reading::OptionPlace;
 use reading::OptionU64;
 use reading::ProcessorSetting;
 use reading::RuleEngineMode;
-use reading::RuleIdRange;
 use reading::RuleMetadata;
 
 fn mode_setting(n: u64) -> ModeSetting {
@@ -94,18 +93,19 @@ fn entry_settings(list: &[u64]) -> Settings {
     }
 }
 
-// The ranges at the end of the controls. They were tested, so none is refused here.
+// The ranges in the controls' arrays, as they are: an addition would refuse one that starts above its end.
 fn with_ranges(controls: Controls, ranges: &[u64]) -> Controls {
     let n = ranges.len() / 2;
     let mut c = controls;
     let mut k = 0;
     while k < n {
-        let changed = c.remove_range(RuleIdRange {
-            start: replay_line::number_at(ranges, 2 * k),
-            end: replay_line::number_at(ranges, 2 * k + 1),
-        });
-        c = changed.controls;
+        if 256 <= k {
+            return c;
+        }
+        c.starts[k] = replay_line::number_at(ranges, 2 * k);
+        c.ends[k] = replay_line::number_at(ranges, 2 * k + 1);
         k += 1;
+        c.ranges = k;
     }
     c
 }

@@ -335,20 +335,7 @@ fn is_bytes(numbers: &[u64]) -> bool {
     true
 }
 
-// Whether no range starts above its end.
-fn is_ranges(numbers: &[u64]) -> bool {
-    let n = numbers.len() / 2;
-    let mut k = 0;
-    while k < n {
-        if number_at(numbers, 2 * k + 1) < number_at(numbers, 2 * k) {
-            return false;
-        }
-        k += 1;
-    }
-    true
-}
-
-// Whether the first five numbers and the ranges are an entry.
+// Whether the first five numbers are an entry's. The ranges behind them may be any: one that starts above its end removes nothing.
 fn is_entry(list: &[u64]) -> bool {
     if 3 < number_at(list, 0) {
         return false;
@@ -362,10 +349,7 @@ fn is_entry(list: &[u64]) -> bool {
     if 1 < number_at(list, 3) {
         return false;
     }
-    if 1 < number_at(list, 4) {
-        return false;
-    }
-    is_ranges(items(list, 5, 2))
+    number_at(list, 4) <= 1
 }
 
 fn past_call(list: &[u64], at: usize) -> usize {

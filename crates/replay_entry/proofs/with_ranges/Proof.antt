@@ -1,4 +1,4 @@
--- `with_ranges` is safe and ends: each turn adds one range.
+-- `with_ranges` is safe and ends: each turn writes one range.
 use borrow.Author.Needs.{needs}
 use Prim.Native.Nat.{_-_}
 use native.Mathlib.Omega.{arith}
@@ -14,11 +14,20 @@ abbrev μ-loop : tie.MeasureT-loop
 loop-holds : tie.Need-loop-holds Inv-loop μ-loop
 loop-holds c = tt
 
+returns : tie.Need-returns Inv-loop μ-loop
+returns c = tt
+
 mul-number-at : tie.Need-mul-number-at Inv-loop μ-loop
 mul-number-at c = omega arith
 
 number-at-requires : tie.Need-number-at-requires Inv-loop μ-loop
 number-at-requires c κs = search needs
+
+mul-c : tie.Need-mul-c Inv-loop μ-loop
+mul-c c = omega arith
+
+element-write-c : tie.Need-element-write-c Inv-loop μ-loop
+element-write-c c = omega arith
 
 mul-number-at-2 : tie.Need-mul-number-at-2 Inv-loop μ-loop
 mul-number-at-2 c = omega arith
@@ -29,8 +38,11 @@ add-number-at c = omega arith
 number-at-requires-2 : tie.Need-number-at-requires-2 Inv-loop μ-loop
 number-at-requires-2 c κs = search needs
 
-remove-range-requires : tie.Need-remove-range-requires Inv-loop μ-loop
-remove-range-requires c κs = search needs
+mul-c-2 : tie.Need-mul-c-2 Inv-loop μ-loop
+mul-c-2 c = omega arith
+
+element-write-c-2 : tie.Need-element-write-c-2 Inv-loop μ-loop
+element-write-c-2 c = omega arith
 
 add-k : tie.Need-add-k Inv-loop μ-loop
 add-k c = omega arith
@@ -41,8 +53,8 @@ loop-less c = omega arith
 loop-again : tie.Need-loop-again Inv-loop μ-loop
 loop-again c = tt
 
-returns : tie.Need-returns Inv-loop μ-loop
-returns c = tt
+returns-2 : tie.Need-returns-2 Inv-loop μ-loop
+returns-2 c = tt
 
 pub with-ranges-spec : {M : Type 1} → statement M
 with-ranges-spec =
@@ -51,13 +63,17 @@ with-ranges-spec =
     Inv-loop
     μ-loop
     loop-holds
+    returns
     mul-number-at
     number-at-requires
+    mul-c
+    element-write-c
     mul-number-at-2
     add-number-at
     number-at-requires-2
-    remove-range-requires
+    mul-c-2
+    element-write-c-2
     add-k
     loop-less
     loop-again
-    returns)
+    returns-2)
