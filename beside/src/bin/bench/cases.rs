@@ -5,10 +5,11 @@ use tivembo::{Act, Builder, RuleSet};
 
 use crate::core_rules;
 
-/// A case of one call, with the least that the Rust's time is to be of ours.
+/// A case of one call, and how many times as long the Rust's call must at least take.
+#[derive(Clone)]
 pub struct Measured {
     pub name: &'static str,
-    pub what: &'static str,
+    pub what: String,
     pub bound: f64,
     pub case: Case,
 }
@@ -19,51 +20,51 @@ const BELOW: u64 = 100_000;
 const ABOVE: u64 = 900_000;
 
 pub fn all() -> Vec<Measured> {
-    let of = |name, what, bound, case| Measured {
+    [without_match(), with_matches()].concat()
+}
+
+fn without_match() -> Vec<Measured> {
+    let cases = [
+        ("512-no-ranges", "no ranges", Vec::new()),
+        (
+            "512-ranges-above",
+            "256 ranges above all ids",
+            ranges(ABOVE),
+        ),
+        (
+            "512-ranges-below",
+            "256 ranges below all ids",
+            ranges(BELOW),
+        ),
+        (
+            "512-ranges-in-turn",
+            "256 ranges below and above in turn",
+            in_turn(),
+        ),
+    ];
+    let measured = cases.map(|(name, what, ranges)| Measured {
+        name,
+        what: format!("512 rules, no match, {what}"),
+        bound: 15.0,
+        case: missed(512, ranges),
+    });
+    measured.to_vec()
+}
+
+fn with_matches() -> Vec<Measured> {
+    let core = "like the Core Rule Set's phase 2, paranoia level";
+    let cases = [
+        ("64-ctl", "64 rules, 10 match with ctl".to_string(), mixed()),
+        ("core-level-1", format!("{core} 1"), core_rules::case(1)),
+        ("core-level-4", format!("{core} 4"), core_rules::case(4)),
+    ];
+    let measured = cases.map(|(name, what, case)| Measured {
         name,
         what,
-        bound,
+        bound: 10.0,
         case,
-    };
-    vec![
-        of(
-            "512-no-ranges",
-            "512 rules, no match, no ranges",
-            15.0,
-            missed(512, Vec::new()),
-        ),
-        of(
-            "512-ranges-above",
-            "512 rules, no match, 256 ranges above all ids",
-            15.0,
-            missed(512, ranges(ABOVE)),
-        ),
-        of(
-            "512-ranges-below",
-            "512 rules, no match, 256 ranges below all ids",
-            15.0,
-            missed(512, ranges(BELOW)),
-        ),
-        of(
-            "512-ranges-in-turn",
-            "512 rules, no match, 256 ranges below and above in turn",
-            15.0,
-            missed(512, in_turn()),
-        ),
-        of("64-ctl", "64 rules, 10 match with ctl", 10.0, mixed()),
-        of(
-            "core-level-1",
-            "like the Core Rule Set's phase 2, paranoia level 1",
-            10.0,
-            core_rules::case(1),
-        ),
-        of(
-            "core-level-4",
-            "like the Core Rule Set's phase 2, paranoia level 4",
-            10.0,
-            core_rules::case(4),
-        ),
-    ]
+    });
+    measured.to_vec()
 }
 
 /// A case of one call in phase 2, mode On.

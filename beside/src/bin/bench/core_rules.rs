@@ -4,8 +4,8 @@
 //! is not checked at that level, so that at level 1 each file is left behind its first level. Detection rules have id, msg,
 //! logdata, ver and severity; their block is pass, as under anomaly scoring. Some have the ctl:auditLogParts of the
 //! version 3 rules. A third of them start chains of 2 to 4 rules; the rules behind a starter have no id. Tags, setvar,
-//! transformations and all else without an effect in the phase loop are left out, as a host leaves them out. The markers
-//! of the files that have no rule in phase 2 stand behind all rules.
+//! transformations and all else without an effect in the phase loop are left out, as a host leaves them out. Every msg is
+//! a text of its own, of some 45 bytes. The markers of the files that have no rule in phase 2 stand behind all rules.
 
 use beside::case::{outcome, Case};
 use tivembo::{Act, Builder, RuleSet};
@@ -88,7 +88,7 @@ impl Drawn {
         let (is_chain, is_audited) = (is_among(CHAINS), is_among(AUDITED));
         let (matches, begins) = (unit % 50 == 7, is_chain && unit % 20 == 3);
         self.units += 1;
-        let msg = format!("Attack Detected: suspicious content, pattern {unit} of the group");
+        let msg = format!("Remote Command Execution: Pattern {unit} Found");
         let mut actions = vec![
             Act::Id(id),
             Act::Pass,

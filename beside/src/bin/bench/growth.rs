@@ -3,9 +3,9 @@
 use std::path::Path;
 use std::{fs, io};
 
+use crate::cases;
 use crate::plot::{self, Line};
-use crate::times::{self, Times};
-use crate::{cases, times::BLOCKS};
+use crate::times::{self, Times, BLOCKS};
 
 const COUNTS: [u64; 4] = [64, 128, 256, 512];
 

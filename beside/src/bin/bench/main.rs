@@ -21,7 +21,7 @@ use std::process::ExitCode;
 use std::{env, thread};
 
 use cases::Measured;
-use gateway::Gateway;
+use gateway::{Gateway, Results};
 use times::BLOCKS;
 
 const SMALL_STACK: usize = 256 * 1024;
@@ -70,20 +70,23 @@ fn print_one(measured: &Measured) -> bool {
     println!("  bare {:.1}", times.bare / times.ours);
     println!("ratio {} {ratio:.1}", measured.name);
     if ratio < bound {
-        println!("  MISSED: the bound is {bound}");
+        println!("  MISSED: {ratio:.2}, the bound is {bound}");
     }
     ratio >= bound
 }
 
-/// Makes the proved calls alone, in a thread with a small stack.
+/// Makes the proved calls alone, in a thread with a small stack, where they must give the same.
 fn on_a_small_stack(cases: &[Measured]) -> usize {
     println!(
         "In a thread with a stack of {} KiB, ours alone:",
         SMALL_STACK / 1024
     );
+    let results = |measured: &Measured| Gateway::new(&measured.case).results();
+    let expected: Vec<Results> = cases.iter().map(results).collect();
     let run = || {
-        for measured in cases {
+        for (measured, expected) in cases.iter().zip(&expected) {
             let mut gateway = Gateway::new(&measured.case);
+            assert_eq!(gateway.results(), *expected);
             let [ours] = times::in_turns([&mut |calls| gateway.time(calls)]);
             println!("  {ours:.0} ns  {}", measured.what);
         }

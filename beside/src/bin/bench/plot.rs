@@ -68,7 +68,14 @@ pub fn drawn(lines: &[Line]) -> String {
         "#000",
         "Time of a phase call in which no rule matches",
     );
-    text(&mut svg, middle, BOTTOM + 46.0, "middle", "#000", "rules");
+    text(
+        &mut svg,
+        middle,
+        BOTTOM + 46.0,
+        "middle",
+        "#000",
+        "number of rules; both axes are logarithmic",
+    );
     time_axis(&mut svg, &axes);
     rule_axis(&mut svg, &axes, lines);
     for line in lines {

@@ -10,8 +10,9 @@ use oracle::{Missed, Timed};
 use crate::check::check;
 use crate::gateway::Gateway;
 
-pub const BLOCKS: usize = 150;
-const BLOCK_TIME: Duration = Duration::from_millis(1);
+/// Many short blocks: some of them fall between what else the computer does.
+pub const BLOCKS: usize = 300;
+const BLOCK_TIME: Duration = Duration::from_micros(500);
 
 /// Nanoseconds of one call.
 #[derive(Debug, Clone, Copy)]
