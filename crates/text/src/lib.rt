@@ -1,6 +1,8 @@
 // Bytes of a text: folding, trimming, comparison with a spelling, searching. Each function takes a whole slice;
 // for a part of a lent text see the crate parts.
 ghost use mathlib.Core.Path.{_≡_};
+ghost use mathlib.Core.Bool.{cond};
+ghost use lib.Dec.{ltb};
 ghost use Rattle.reading.specs.Lists.{any};
 ghost use Rattle.reading.specs.Text.{same, isBlank, trimStart, trimEnd, trim, foldByte, fold, indexOf};
 ghost use Rattle.reading.specs.Directive.{isHigh};
@@ -100,16 +102,25 @@ pub fn find(s: &[u8], b: u8) -> usize
     i
 }
 
-// Whether a text has a byte of 80 (hexadecimal) or more.
+fn larger(a: u8, b: u8) -> u8
+    ensures { λ r. ⌜ r ≡ cond (ltb a b) b a ⌝ }
+{
+    if a < b {
+        return b;
+    }
+    a
+}
+
+// Whether a text has a byte of 80 (hexadecimal) or more. The pass has no way out, so that the
+// compiler can take many bytes at once.
 pub fn has_high_byte(s: &[u8]) -> bool
     ensures { λ r. ⌜ r ≡ any isHigh (now (s .entry)) ⌝ }
 {
+    let mut most = 0u8;
     let mut i = 0;
     while i < s.len() {
-        if 128 <= s[i] {
-            return true;
-        }
+        most = larger(most, s[i]);
         i += 1;
     }
-    false
+    128 <= most
 }

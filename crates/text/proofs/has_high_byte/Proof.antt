@@ -1,32 +1,32 @@
+-- `text::has_high_byte` meets its contract. The invariant: `most` is high, or a byte from `i` on is, where any is.
 use Prim.Native.Nat.{_-_, _≤_}
 use mathlib.Core.Path.{_≡_, refl, sym, _∙_}
+use mathlib.Core.Bool.{_||_}
 use native.Mathlib.Omega.{arith}
 use native.Mathlib.Numerals.{add-one}
+use denote.Ref.{now}
+use lib.Dec.{leb}
 use lib.ListN.{length, drop}
-use borrow.Author.Tests.{le-leb, lt-leb}
 use Rattle.reading.specs.Lists.{any}
 use Rattle.reading.specs.Directive.{isHigh}
-use Rattle.text.proofs.Search.{any-here, any-later, any-none}
+use Rattle.text.proofs.Search.{high-more, high-end}
 use Rattle.text.proofs.has_high_byte.Statement.{statement}
 use Rattle.text.proofs.has_high_byte.Tie as tie
 
 abbrev Inv-loop : tie.InvT-loop
-Inv-loop s i₀ i = (i ≤ length s) × (any isHigh s ≡ any isHigh (drop i s))
+Inv-loop s most₀ i₀ most i = (i ≤ length s) × (any isHigh s ≡ (leb 128 most || any isHigh (drop i s)))
 
 abbrev μ-loop : tie.MeasureT-loop
-μ-loop s i₀ i = length s - i
+μ-loop s most₀ i₀ most i = length s - i
 
 loop-holds : tie.Need-loop-holds Inv-loop μ-loop
 loop-holds c = (omega arith, refl)
 
-shared-slice-read-if1 : tie.Need-shared-slice-read-if1 Inv-loop μ-loop
-shared-slice-read-if1 c = omega arith
+shared-slice-read-larger : tie.Need-shared-slice-read-larger Inv-loop μ-loop
+shared-slice-read-larger c = omega arith
 
-returns : tie.Need-returns Inv-loop μ-loop
-returns c =
-    let at = c .before .before .before in
-    let s = at .before .args .s .now in
-    sym (at .loop .inv .1 ∙ any-here isHigh s (at .loop .i) (omega arith) (le-leb _ _ (c .if1 .taken)))
+larger-requires : tie.Need-larger-requires Inv-loop μ-loop
+larger-requires c κs = tt
 
 add-i : tie.Need-add-i Inv-loop μ-loop
 add-i c = omega arith
@@ -36,15 +36,14 @@ loop-less c = omega arith
 
 loop-again : tie.Need-loop-again Inv-loop μ-loop
 loop-again c =
-    let at = c .before .before .before in
-    let s = at .before .args .s .now in
-    let e = any-later isHigh s (at .loop .i) (omega arith) (lt-leb _ _ (c .if1 .left)) in
-    simp add-one (omega arith, at .loop .inv .1 ∙ e)
+    let s = now ((c .before .before .before .before .before) .args .s) in
+    let e = high-more s ((c .before .before .before) .loop .i) ((c .before .before .before) .loop .most) (c .larger .result) (omega arith)
+    (c .larger .ensures) in
+    simp add-one (omega arith, (c .before .before .before) .loop .inv .1 ∙ e)
 
-returns-2 : tie.Need-returns-2 Inv-loop μ-loop
-returns-2 c =
-    let at = c .before in
-    sym (at .loop .inv .1 ∙ any-none isHigh (at .before .args .s .now) (at .loop .i) (c .loop-test .left))
+returns : tie.Need-returns Inv-loop μ-loop
+returns c =
+    sym ((c .before) .loop .inv .1 ∙ high-end (now ((c .before .before .before) .args .s)) ((c .before) .loop .i) ((c .before) .loop .most) (c .loop-test .left))
 
 pub has-high-byte-spec : {M : Type 1} → statement M
 has-high-byte-spec =
@@ -53,9 +52,9 @@ has-high-byte-spec =
     Inv-loop
     μ-loop
     loop-holds
-    shared-slice-read-if1
-    returns
+    shared-slice-read-larger
+    larger-requires
     add-i
     loop-less
     loop-again
-    returns-2)
+    returns)
