@@ -1,11 +1,11 @@
 -- What is left of a limit after the rules passed.
 use Prim.Native.Nat.{ℕ, _+_, _-_, _*_, _/_, _≤_, _<_, min}
 use mathlib.Core.Path.{_≡_, refl, sym, ap, _∙_}
-use mathlib.Core.Bool.{Bool, true, false, not, cond}
+use mathlib.Core.Bool.{true, false}
 use mathlib.Core.List.{List}
 use native.Mathlib.Omega.{arith}
-use borrow.Author.Tests.{lt-ltb, le-ltb, eq-eqb, ne-eqb, eqb-true}
-use lib.Dec.{ltb, eqb}
+use borrow.Author.Tests.{lt-ltb, le-ltb}
+use lib.Dec.{ltb}
 use lib.ListN.{length, take, drop, getD}
 use lib.Seq.{take-all}
 use Rattle.reading.specs.declared.Rule.{Rule}
@@ -22,12 +22,13 @@ pub record Left (w : ℕ → ℕ) (codes rules : List ℕ) (held limit left i : 
   pub sum : held + total (ruleWeight w codes) (take i (ruleList rules)) + left ≡ limit
 
 module _ (w : ℕ → ℕ) (all rules : List ℕ) (held limit : ℕ) where
-  -- no code weighs anything
-  pub none-adds : total w all ≡ 0 → held + total (ruleWeight w (take 4096 all)) (ruleList rules) ≡ held
-  none-adds none =
+  -- no code that counts weighs anything
+  pub none-adds : held ≤ limit → total w (take 4096 all) ≡ 0
+      → false ≡ ltb limit (held + total (ruleWeight w (take 4096 all)) (ruleList rules))
+  none-adds few none =
       let each : (r : Rule) → ruleWeight w (take 4096 all) r ≡ 0
-      = λ r. omega (arith, total-part-le w (r .first) (r .count) (take 4096 all), total-take-le w 4096 all) in
-      omega (arith, total-none (ruleWeight w (take 4096 all)) each (ruleList rules))
+      = λ r. omega (arith, total-part-le w (r .first) (r .count) (take 4096 all)) in
+      sym (le-ltb limit _ (omega (arith, total-none (ruleWeight w (take 4096 all)) each (ruleList rules))))
 
   pub over-held : limit < held → true ≡ ltb limit (held + total (ruleWeight w (take 4096 all)) (ruleList rules))
   over-held h = sym (lt-ltb limit _ (omega arith))
@@ -66,22 +67,25 @@ module _ (w : ℕ → ℕ) (all rules : List ℕ) (held limit : ℕ) where
           = omega (arith, so .sum, ap (total (ruleWeight w (take n all))) whole) in
           rw (← first-codes) (sym (le-ltb limit _ a))
 
--- a search for a code that weighs something: those before i weigh nothing, and the code at i weighs `here`
-module _ (w : ℕ → ℕ) (codes : List ℕ) (i : ℕ) where
-  module _ (h : i < length codes) (here : ℕ) (is : here ≡ w (getD codes i 0)) where
-    pub weighs-here : (here ≡ 0 → ⊥) → true ≡ not (eqb (total w codes) 0)
-    weighs-here n =
-        rw (ne-eqb (total w codes) 0 (λ e. n (omega (arith, is, e, total-more w codes i 0 h, total-take-le w (i + 1) codes)))) refl
+-- what the codes before index i weigh, of n that count
+pub record Whole (w : ℕ → ℕ) (codes : List ℕ) (n sum i : ℕ) : Type 0 where
+  pub within : i ≤ n
+  pub small : sum ≤ 65535 * i
+  pub sum-is : sum ≡ total w (take i codes)
 
-    pub weighs-more : here ≡ 0 → total w (take i codes) ≡ 0 → total w (take (i + 1) codes) ≡ 0
-    weighs-more e none = omega (arith, is, total-more w codes i 0 h)
+module _ (w : ℕ → ℕ) (codes : List ℕ) (n : ℕ) (n-is : n ≡ min 4096 (length codes)) where
+  pub whole-none : Whole w codes n 0 0
+  whole-none = record { within = omega arith; small = omega arith; sum-is = refl }
 
-  pub weighs-none : length codes ≤ i → total w (take i codes) ≡ 0 → false ≡ not (eqb (total w codes) 0)
-  weighs-none h none = rw (eq-eqb (total w codes) 0 (ap (total w) (sym (take-all i codes h)) ∙ none)) refl
+  module _ (sum i : ℕ) (so : Whole w codes n sum i) where
+    pub whole-more : i < n → (v : ℕ) → v ≡ w (getD codes i 0) → v ≤ 65535 → Whole w codes n (sum + v) (i + 1)
+    whole-more h v is few = record {
+      within = omega arith;
+      small = omega (arith, so .small);
+      sum-is = omega (arith, so .sum-is, is, total-more w codes i 0 (omega (arith, n-is)));
+    }
 
-pub weighs-not : (n : ℕ) → not (eqb n 0) ≡ false → n ≡ 0
-weighs-not n e = go (eqb n 0) refl e
-  where
-    go : (b : Bool) → eqb n 0 ≡ b → not b ≡ false → n ≡ 0
-    go true is h = eqb-true n 0 is
-    go false is h = absurd (let z : _≡_ {A = ℕ} 1 0 = ap (λ (x : Bool). cond {A = ℕ} x 1 0) h in omega (arith, z))
+    pub whole-end : n ≤ i → sum ≡ total w (take 4096 codes)
+    whole-end h =
+        let at : i ≡ min 4096 (length codes) = omega (arith, so .within, n-is) in
+        so .sum-is ∙ ap (λ (k : ℕ). total w (take k codes)) at ∙ ap (total w) (clip-take 4096 codes)

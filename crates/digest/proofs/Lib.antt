@@ -3,4 +3,5 @@ pub mod TotalLaws
 pub mod Writing
 pub mod Summing
 pub mod Exceeding
+pub mod Following
 pub mod Refused

@@ -53,6 +53,12 @@ module _ {A : Type 0} (w : A → ℕ) where
   total-take-le (suc i) [] = omega arith
   total-take-le (suc i) (x ∷ l) = omega (arith, total-take-le i l)
 
+  pub total-take-mono : (i k : ℕ) (l : List A) → i ≤ k → total w (take i l) ≤ total w (take k l)
+  total-take-mono zero k l h = omega arith
+  total-take-mono (suc i) zero l h = absurd (omega arith)
+  total-take-mono (suc i) (suc k) [] h = omega arith
+  total-take-mono (suc i) (suc k) (x ∷ l) h = omega (arith, total-take-mono i k l (omega arith))
+
   pub total-drop-le : (i : ℕ) (l : List A) → total w (drop i l) ≤ total w l
   total-drop-le zero l = omega arith
   total-drop-le (suc i) [] = omega arith

@@ -6,14 +6,13 @@ use reading::CtlDirective;
 use reading::RuleEngineMode;
 ghost use mathlib.Core.Path.{_≡_};
 ghost use Prim.Native.Nat.{_+_, _<_, _≤_, min};
-ghost use mathlib.Core.Bool.{not};
-ghost use lib.Dec.{eqb, ltb};
+ghost use lib.Dec.{ltb};
 ghost use lib.ListN.{length, take, getD};
 ghost use Rattle.reading.specs.Lists.{over, total};
 ghost use Rattle.reading.specs.Records.{ruleList, actionList};
 ghost use Rattle.reading.specs.Walk.{noAction};
 ghost use Rattle.digest.specs.Codes.{codeOf, codeAt, codesOf, rangesCoded, targetsCoded, ruleWeight};
-ghost use Rattle.digest.specs.Weights.{weightBy, Summed};
+ghost use Rattle.digest.specs.Weights.{weightBy, Summed, following};
 
 fn mode_code(mode: RuleEngineMode) -> u16
     ensures { λ r. ⌜ r ≡ codeOf (CtlDirective.RuleEngine mode) ⌝ }
@@ -152,18 +151,37 @@ fn wide(x: u32) -> usize
     x as usize
 }
 
-// Whether any of the codes weighs something.
-fn any_weighs(codes: &[u16], targets: bool) -> bool
-    ensures { λ r. ⌜ r ≡ not (eqb (total (weightBy targets) (now (codes .entry))) 0) ⌝ }
+// What the first 4,096 codes weigh together.
+fn whole_weight(codes: &[u16], targets: bool) -> usize
+    ensures { λ r. ⌜ r ≡ total (weightBy targets) (take 4096 (now (codes .entry))) ⌝ }
 {
+    let n = smaller(4096, codes.len());
+    let mut sum = 0u32;
     let mut i = 0;
-    while i < codes.len() {
-        if weight(codes[i], targets) != 0 {
-            return true;
-        }
+    while i < n {
+        sum += weight(codes[i], targets);
         i += 1;
     }
-    false
+    wide(sum)
+}
+
+// Whether the rules' parts of a list of so many actions follow each other: none begins before the end of
+// the one before it.
+fn follow(rules: &[u64], actions: usize) -> bool
+    ensures { λ r. ⌜ r ≡ following actions 0 (ruleList (now (rules .entry))) ⌝ }
+{
+    let count = rules.len() / 5;
+    let mut end = 0;
+    let mut i = 0;
+    while i < count {
+        let first = clipped(rules[5 * i + 3], actions);
+        if first < end {
+            return false;
+        }
+        end = first + clipped(rules[5 * i + 4], actions - first);
+        i += 1;
+    }
+    true
 }
 
 // Whether so many held and those of all rules, counted rule by rule, exceed the limit. What a rule
@@ -193,14 +211,25 @@ fn sums_exceed(rules: &[u64], codes: &[u16], targets: bool, held: usize, limit: 
     false
 }
 
-// The same. In most calls no action adds anything, and then nothing is summed.
+// The same. In most calls no action adds anything, or the rules' parts of the actions follow each
+// other and then add no more than all actions together: nothing is summed rule by rule.
 fn exceeds(rules: &[u64], codes: &[u16], targets: bool, held: usize, limit: usize) -> bool
     ensures { λ r. ⌜ r ≡ ltb limit (held + total (ruleWeight (weightBy targets) (take 4096 (now (codes .entry)))) (ruleList (now (rules .entry)))) ⌝ }
 {
-    if any_weighs(codes, targets) {
+    if limit < held {
+        return true;
+    }
+    let whole = whole_weight(codes, targets);
+    if whole == 0 {
+        return false;
+    }
+    if limit - held < whole {
         return sums_exceed(rules, codes, targets, held, limit);
     }
-    limit < held
+    if follow(rules, smaller(4096, codes.len())) {
+        return false;
+    }
+    sums_exceed(rules, codes, targets, held, limit)
 }
 
 // Whether so many held ranges and those of all rules, counted rule by rule, exceed 256 (refusal 8).

@@ -1,27 +1,64 @@
 -- `digest::exceeds` meets its contract.
 use borrow.Author.Needs.{needs}
-use mathlib.Core.Path.{sym, ap, _∙_}
+use mathlib.Core.Path.{sym, _∙_}
+use native.Mathlib.Omega.{arith}
 use denote.Ref.{now}
-use lib.Dec.{ltb}
 use Rattle.digest.specs.Weights.{weightBy}
-use Rattle.digest.proofs.Exceeding.{none-adds, weighs-not}
+use Rattle.digest.proofs.Exceeding.{none-adds, over-held}
+use Rattle.digest.proofs.Following.{follow-fits}
 use Rattle.digest.proofs.exceeds.Statement.{statement}
 use Rattle.digest.proofs.exceeds.Tie as tie
 
-any-weighs-requires : tie.Need-any-weighs-requires
-any-weighs-requires c κs = search needs
+returns : tie.Need-returns
+returns c =
+    let a = (c .before .before .before) .args in
+    over-held (weightBy (a .targets)) (now (a .codes)) (now (a .rules)) (a .held) (a .limit) (c .if1 .taken)
+
+whole-weight-requires : tie.Need-whole-weight-requires
+whole-weight-requires c κs = search needs
+
+returns-2 : tie.Need-returns-2
+returns-2 c =
+    let a = (c .before .before .before .before .before) .args in
+    none-adds (weightBy (a .targets)) (now (a .codes)) (now (a .rules)) (a .held) (a .limit) ((c .before .before) .if1 .left)
+    (sym ((c .before) .whole-weight .ensures) ∙ c .if2 .taken)
 
 sums-exceed-requires : tie.Need-sums-exceed-requires
 sums-exceed-requires c κs = search needs
 
-returns : tie.Need-returns
-returns c = search needs
+returns-3 : tie.Need-returns-3
+returns-3 c = search needs
 
-returns-2 : tie.Need-returns-2
-returns-2 c =
-    let a = (c .before .before .before .before) .args in
-    ap (ltb (a .limit)) (sym (none-adds (weightBy (a .targets)) (now (a .codes)) (now (a .rules)) (a .held) (a .limit)
-    (weighs-not _ (sym ((c .before) .any-weighs .ensures) ∙ c .if1 .left))))
+smaller-requires : tie.Need-smaller-requires
+smaller-requires c κs = search needs
+
+follow-requires : tie.Need-follow-requires
+follow-requires c κs = search needs
+
+returns-4 : tie.Need-returns-4
+returns-4 c =
+    let a = (c .before .before .before .before .before .before .before .before .before) .args in
+    follow-fits (weightBy (a .targets)) (now (a .codes)) (now (a .rules)) (a .held) (a .limit) ((c .before .before .before .before .before .before) .if1 .left) _
+    ((c .before .before) .smaller .ensures) (sym ((c .before) .follow .ensures) ∙ c .if4 .taken)
+    (omega (arith, (c .before .before .before .before .before) .whole-weight .ensures, (c .before .before .before) .if3 .left))
+
+sums-exceed-requires-2 : tie.Need-sums-exceed-requires-2
+sums-exceed-requires-2 c κs = search needs
+
+returns-5 : tie.Need-returns-5
+returns-5 c = search needs
 
 pub exceeds-spec : {M : Type 1} → statement M
-exceeds-spec = tie.close (tie.spec any-weighs-requires sums-exceed-requires returns returns-2)
+exceeds-spec =
+    tie.close
+    (tie.spec
+    returns
+    whole-weight-requires
+    returns-2
+    sums-exceed-requires
+    returns-3
+    smaller-requires
+    follow-requires
+    returns-4
+    sums-exceed-requires-2
+    returns-5)
