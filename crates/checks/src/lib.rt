@@ -148,12 +148,5 @@ pub fn any_bad_marker(markers: &[u64], bytes: usize, rules: usize) -> bool
 pub fn any_bad_outcome(outcomes: &[u8]) -> bool
     ensures { λ r. ⌜ r ≡ any badOutcome (now (outcomes .entry)) ⌝ }
 {
-    let mut i = 0;
-    while i < outcomes.len() {
-        if 3 < outcomes[i] {
-            return true;
-        }
-        i += 1;
-    }
-    false
+    text::any_above(outcomes, 3)
 }

@@ -4,13 +4,12 @@ use mathlib.Core.Path.{_≡_, refl, sym, ap, _∙_}
 use mathlib.Core.Bool.{Bool, true, false, cond, _||_}
 use mathlib.Core.List.{List, [], _∷_}
 use native.Mathlib.Omega.{arith}
-use borrow.Author.Tests.{eq-eqb, ne-eqb, le-leb, lt-leb, ltb-true, ltb-false, leb-true, leb-false}
-use lib.Dec.{eqb, leb, ltb}
+use borrow.Author.Tests.{eq-eqb, ne-eqb, lt-ltb, le-ltb, ltb-true, ltb-false}
+use lib.Dec.{eqb, ltb}
 use lib.ListN.{length, drop, getD, drop-of-length-le}
 use lib.Seq.{drop-cons}
 use Rattle.reading.specs.Lists.{any}
 use Rattle.reading.specs.Text.{indexOf}
-use Rattle.reading.specs.Directive.{isHigh}
 
 module _ (b : ℕ) (s : List ℕ) (i : ℕ) where
   pub index-here : i < length s → getD s i 0 ≡ b → indexOf b (drop i s) ≡ 0
@@ -53,22 +52,26 @@ or-none : (a : Bool) → (a || false) ≡ a
 or-none true = refl
 or-none false = refl
 
-high-larger : (m x v : ℕ) → v ≡ cond (ltb m x) x m → (leb 128 m || leb 128 x) ≡ leb 128 v
-high-larger m x v e = rw e (go (ltb m x) (leb 128 m) refl refl)
+above-larger : (k m x v : ℕ) → v ≡ cond (ltb m x) x m → (ltb k m || ltb k x) ≡ ltb k v
+above-larger k m x v e = rw e (go (ltb m x) (ltb k m) refl refl)
   where
-    go : (t h : Bool) → ltb m x ≡ t → leb 128 m ≡ h → (h || leb 128 x) ≡ leb 128 (cond t x m)
-    go true true l a = sym (le-leb 128 x (omega (arith, ltb-true m x l, leb-true 128 m a)))
+    go : (t h : Bool) → ltb m x ≡ t → ltb k m ≡ h → (h || ltb k x) ≡ ltb k (cond t x m)
+    go true true l a = sym (lt-ltb k x (omega (arith, ltb-true m x l, ltb-true k m a)))
     go true false l a = refl
     go false true l a = sym a
-    go false false l a = lt-leb 128 x (omega (arith, ltb-false m x l, leb-false 128 m a)) ∙ sym a
+    go false false l a = le-ltb k x (omega (arith, ltb-false m x l, ltb-false k m a)) ∙ sym a
 
-module _ (s : List ℕ) (i m : ℕ) where
-  pub high-more : (v : ℕ) → i < length s → v ≡ cond (ltb m (getD s i 0)) (getD s i 0) m
-      → (leb 128 m || any isHigh (drop i s)) ≡ (leb 128 v || any isHigh (drop (suc i) s))
-  high-more v h e =
-      ap (λ (l : List ℕ). leb 128 m || any isHigh l) (drop-cons s i 0 h)
-      ∙ (or-assoc (leb 128 m) (leb 128 (getD s i 0)) (any isHigh (drop (suc i) s))
-      ∙ ap (λ (t : Bool). t || any isHigh (drop (suc i) s)) (high-larger m (getD s i 0) v e))
+module _ (k : ℕ) (s : List ℕ) (i m : ℕ) where
+  pub above-more : (v : ℕ) → i < length s → v ≡ cond (ltb m (getD s i 0)) (getD s i 0) m
+      → (ltb k m || any (ltb k) (drop i s)) ≡ (ltb k v || any (ltb k) (drop (suc i) s))
+  above-more v h e =
+      ap (λ (l : List ℕ). ltb k m || any (ltb k) l) (drop-cons s i 0 h)
+      ∙ (or-assoc (ltb k m) (ltb k (getD s i 0)) (any (ltb k) (drop (suc i) s))
+      ∙ ap (λ (t : Bool). t || any (ltb k) (drop (suc i) s)) (above-larger k m (getD s i 0) v e))
 
-  pub high-end : length s ≤ i → (leb 128 m || any isHigh (drop i s)) ≡ leb 128 m
-  high-end h = ap (λ (l : List ℕ). leb 128 m || any isHigh l) (drop-of-length-le s h) ∙ or-none (leb 128 m)
+  pub above-end : length s ≤ i → (ltb k m || any (ltb k) (drop i s)) ≡ ltb k m
+  above-end h = ap (λ (l : List ℕ). ltb k m || any (ltb k) l) (drop-of-length-le s h) ∙ or-none (ltb k m)
+
+-- nothing is above 0
+pub above-start : (k : ℕ) (s : List ℕ) → any (ltb k) s ≡ (ltb k 0 || any (ltb k) s)
+above-start k s = rw (le-ltb k 0 (omega arith))

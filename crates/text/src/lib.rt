@@ -111,10 +111,10 @@ fn larger(a: u8, b: u8) -> u8
     a
 }
 
-// Whether a text has a byte of 80 (hexadecimal) or more. The pass has no way out, so that the
-// compiler can take many bytes at once.
-pub fn has_high_byte(s: &[u8]) -> bool
-    ensures { λ r. ⌜ r ≡ any isHigh (now (s .entry)) ⌝ }
+// Whether a list has a number above a limit. The pass has no way out, so that the compiler can take many
+// numbers at once.
+pub fn any_above(s: &[u8], limit: u8) -> bool
+    ensures { λ r. ⌜ r ≡ any (ltb limit) (now (s .entry)) ⌝ }
 {
     let mut most = 0u8;
     let mut i = 0;
@@ -122,5 +122,12 @@ pub fn has_high_byte(s: &[u8]) -> bool
         most = larger(most, s[i]);
         i += 1;
     }
-    128 <= most
+    limit < most
+}
+
+// Whether a text has a byte of 80 (hexadecimal) or more.
+pub fn has_high_byte(s: &[u8]) -> bool
+    ensures { λ r. ⌜ r ≡ any isHigh (now (s .entry)) ⌝ }
+{
+    any_above(s, 127)
 }
