@@ -1,21 +1,19 @@
--- What a host is answered that asks its controls a question, or adds a range or a target to them.
+-- What a host is answered that asks its controls a question.
 use Prim.Native.Nat.{ℕ}
-use mathlib.Core.Path.{_≡_}
 use mathlib.Core.Bool.{Bool, cond, _&&_}
 use lib.Dec.{eqb, ltb}
 use Rattle.reading.specs.declared.OptionPlace.{OptionPlace}
 use Rattle.reading.specs.Numbers.{modeNumbered, modeNumber, accessNumber, processorSettingNumber}
 use Rattle.reading.specs.Controls.{Asked, beyondLimits, askMode, askRemoved, askTargetCount, askTarget, askAccess, askProcessor}
 use Rattle.reading.specs.Controls as reading
-use Rattle.control.specs.Held.{controlsOf, Became}
+use Rattle.control.specs.Held.{controlsOf}
 use Rattle.records.specs.declared.HostControls.{HostControls}
 use Rattle.records.specs.declared.HostNumber.{HostNumber}
 use Rattle.records.specs.declared.HostPlace.{HostPlace}
 use Rattle.records.specs.Parts.{numberKnown, numberOf, flagNumber, hostPlace}
-use Rattle.records.specs.Whole.{knownControls, controlsFromHost, controlsToHost}
+use Rattle.records.specs.Whole.{knownControls, controlsFromHost}
 use Rattle.asked.specs.declared.HostAsked.{HostAsked}
 use Rattle.asked.specs.declared.HostTarget.{HostTarget}
-use Rattle.asked.specs.declared.HostChanged.{HostChanged}
 
 -- the controls that a host's record stands for
 abbrev pub controlsIn : HostControls → reading.Controls
@@ -50,12 +48,3 @@ hostAccess c = answered (refusalIn c (knownControls c)) accessNumber (askAccess 
 
 unfoldable pub hostProcessor : HostControls → HostAsked
 hostProcessor c = answered (refusalIn c (knownControls c)) processorSettingNumber (askProcessor (controlsIn c))
-
--- An addition that answers `answer` and makes of the controls `after`. Refused by a number that is not known, behind 3, the
--- answer is 5. Where the answer is 0 the controls are changed as by the addition, and each number of the record is the one that
--- stands for them; else the record is as lent.
-pub record HostAdded (before : HostControls) (r : HostChanged) (answer : ℕ) (after : reading.Controls) : Type 0 where
-  pub answer-is : r .answer ≡ cond (eqb (refusalIn before (knownControls before)) 0) answer (refusalIn before (knownControls before))
-  pub became : r .answer ≡ 0 → Became (controlsFromHost before) (controlsFromHost (r .controls)) after
-  pub numbers : r .answer ≡ 0 → r .controls ≡ controlsToHost (controlsFromHost (r .controls))
-  pub refused : (r .answer ≡ 0 → ⊥) → r .controls ≡ before

@@ -1,9 +1,7 @@
-// Questions to the controls of a host's record, and additions to them, by number. Each answers 3 where the controls are beyond
-// their limits, and then 5 where a number of the record is not known.
+// Questions to the controls of a host's record, by number. Each answers 3 where the controls are beyond their limits, and then 5
+// where a number of the record is not known.
 use reading::OptionPlace;
-use reading::Place;
 use reading::RuleEngineMode;
-use reading::RuleIdRange;
 use records::HostControls;
 use records::HostNumber;
 use records::HostPlace;
@@ -11,10 +9,9 @@ ghost use mathlib.Core.Path.{_≡_};
 ghost use mathlib.Core.Bool.{cond, _||_, _&&_};
 ghost use lib.Dec.{ltb};
 ghost use Rattle.reading.specs.Numbers.{modeNumbered};
-ghost use Rattle.reading.specs.Controls.{withRange, withTarget, addRangeAnswer, addTargetAnswer};
 ghost use Rattle.records.specs.Parts.{numberKnown};
 ghost use Rattle.records.specs.Whole.{knownControls};
-ghost use Rattle.asked.specs.Asked.{controlsIn, hostMode, hostRemoved, hostTargetCount, hostTarget, hostAccess, hostProcessor, HostAdded};
+ghost use Rattle.asked.specs.Asked.{refusalIn, hostMode, hostRemoved, hostTargetCount, hostTarget, hostAccess, hostProcessor};
 
 // The answer to a question: 0 and the number of a value, or the number of a refusal and 0.
 #[repr(C)]
@@ -28,13 +25,6 @@ pub struct HostAsked {
 pub struct HostTarget {
     pub answer: u64,
     pub target: HostPlace,
-}
-
-// The record after an addition, with its answer.
-#[repr(C)]
-pub struct HostChanged {
-    pub answer: u64,
-    pub controls: HostControls,
 }
 
 fn mode_numbered(mode: u64) -> RuleEngineMode
@@ -56,10 +46,17 @@ fn refusal(ranges: u64, targets: u64, known: bool) -> u64
     if held::is_beyond(ranges as usize, targets as usize) {
         return 3;
     }
-    if known {
-        return 0;
+    if !known {
+        return 5;
     }
-    5
+    0
+}
+
+// The same of a host's controls.
+pub fn refusal_of(c: HostControls) -> u64
+    ensures { λ r. ⌜ r ≡ refusalIn c (knownControls c) ⌝ }
+{
+    refusal(c.ranges, c.targets, records::is_known_controls(c))
 }
 
 fn refused(answer: u64) -> HostAsked
@@ -75,7 +72,7 @@ pub fn engine_mode(c: HostControls, ruleset_mode: u64) -> HostAsked
     if 2 < ruleset_mode {
         return refused(1);
     }
-    let n = refusal(c.ranges, c.targets, records::is_known_controls(c));
+    let n = refusal_of(c);
     if n != 0 {
         return refused(n);
     }
@@ -111,9 +108,9 @@ pub fn is_rule_removed(c: HostControls, id: HostNumber) -> HostAsked
 pub fn target_count(c: HostControls) -> HostAsked
     ensures { λ r. ⌜ r ≡ hostTargetCount c ⌝ }
 {
-    let n = refusal(c.ranges, c.targets, records::is_known_controls(c));
+    let n = refusal_of(c);
     if n != 0 {
-        return refused(n);
+        return refused(n); // and not counted
     }
     let q = questions::target_count(records::controls_from_host(c));
     HostAsked {
@@ -126,7 +123,7 @@ pub fn target_count(c: HostControls) -> HostAsked
 pub fn target_at(c: HostControls, at: u64) -> HostTarget
     ensures { λ r. ⌜ r ≡ hostTarget c at ⌝ }
 {
-    let n = refusal(c.ranges, c.targets, records::is_known_controls(c));
+    let n = refusal_of(c);
     if n != 0 {
         let target = records::host_place(OptionPlace::None);
         return HostTarget { answer: n, target };
@@ -141,9 +138,9 @@ pub fn target_at(c: HostControls, at: u64) -> HostTarget
 pub fn request_body_access(c: HostControls) -> HostAsked
     ensures { λ r. ⌜ r ≡ hostAccess c ⌝ }
 {
-    let n = refusal(c.ranges, c.targets, records::is_known_controls(c));
+    let n = refusal_of(c);
     if n != 0 {
-        return refused(n);
+        return refused(n); // whatever access is set
     }
     let q = questions::request_body_access(records::controls_from_host(c));
     let access = q.access;
@@ -155,69 +152,12 @@ pub fn request_body_access(c: HostControls) -> HostAsked
 pub fn request_body_processor(c: HostControls) -> HostAsked
     ensures { λ r. ⌜ r ≡ hostProcessor c ⌝ }
 {
-    let n = refusal(c.ranges, c.targets, records::is_known_controls(c));
+    let n = refusal_of(c);
     if n != 0 {
-        return refused(n);
+        return refused(n); // whatever processor is set
     }
     let q = questions::request_body_processor(records::controls_from_host(c));
     let processor = q.processor;
     let value = records::processor_setting_number(processor);
     HostAsked { answer: 0, value }
-}
-
-// One range at the end. Behind 3 and an unknown number: 5 where the start is above the end, 8 where 256 are held.
-pub fn remove_range(c: HostControls, start: u64, end: u64) -> HostChanged
-    ensures { λ r. ⌜ HostAdded c r (addRangeAnswer (controlsIn c) (record { start = start; end = end }))
-        (withRange (controlsIn c) (record { start = start; end = end })) ⌝ }
-{
-    let n = refusal(c.ranges, c.targets, records::is_known_controls(c));
-    if n != 0 {
-        return HostChanged {
-            answer: n,
-            controls: c,
-        };
-    }
-    let held = records::controls_from_host(c);
-    let added = held.remove_range(RuleIdRange { start, end });
-    let answer = added.answer;
-    if answer != 0 {
-        return HostChanged {
-            answer,
-            controls: c,
-        };
-    }
-    let after = added.controls;
-    let controls = records::controls_to_host(after);
-    HostChanged {
-        answer: 0,
-        controls,
-    }
-}
-
-// One target at the end. Behind 3 and an unknown number: 9 where 64 are held.
-pub fn remove_target(c: HostControls, phase: u64, position: u64) -> HostChanged
-    ensures { λ r. ⌜ HostAdded c r (addTargetAnswer (controlsIn c)) (withTarget (controlsIn c) (record { phase = phase; position = position })) ⌝ }
-{
-    let n = refusal(c.ranges, c.targets, records::is_known_controls(c));
-    if n != 0 {
-        return HostChanged {
-            answer: n,
-            controls: c,
-        };
-    }
-    let held = records::controls_from_host(c);
-    let added = held.remove_target(Place { phase, position });
-    let answer = added.answer;
-    if answer != 0 {
-        return HostChanged {
-            answer,
-            controls: c,
-        };
-    }
-    let after = added.controls;
-    let controls = records::controls_to_host(after);
-    HostChanged {
-        answer: 0,
-        controls,
-    }
 }

@@ -1,7 +1,7 @@
 // What C and Rust call: the directive reader, the phase call, questions to the controls and additions to them. No enum goes over,
 // and none of these asks anything of what it is lent: a number that is not known is refused.
+use added::HostChanged;
 use asked::HostAsked;
-use asked::HostChanged;
 use asked::HostTarget;
 use handed::HostAnswer;
 use reader::DirectiveRead;
@@ -18,7 +18,8 @@ ghost use Rattle.reading.specs.Directive.{readerOutcome};
 ghost use Rattle.reading.specs.Numbers.{directiveNumber, directiveValue};
 ghost use Rattle.reading.specs.Controls.{withRange, withTarget, addRangeAnswer, addTargetAnswer};
 ghost use Rattle.records.specs.Whole.{fromHost};
-ghost use Rattle.asked.specs.Asked.{controlsIn, hostMode, hostRemoved, hostTargetCount, hostTarget, hostAccess, hostProcessor, HostAdded};
+ghost use Rattle.asked.specs.Asked.{controlsIn, hostMode, hostRemoved, hostTargetCount, hostTarget, hostAccess, hostProcessor};
+ghost use Rattle.added.specs.Added.{HostAdded};
 ghost use Rattle.lent.specs.Lent.{callLent};
 ghost use Rattle.handed.specs.Handed.{HostRan};
 ghost use Rattle.host.specs.Record.{Recorded};
@@ -171,7 +172,7 @@ pub extern "C" fn tivembo_remove_range(c: HostControls, start: u64, end: u64) ->
     ensures { λ r. ⌜ HostAdded c r (addRangeAnswer (controlsIn c) (record { start = start; end = end }))
         (withRange (controlsIn c) (record { start = start; end = end })) ⌝ }
 {
-    asked::remove_range(c, start, end)
+    added::remove_range(c, start, end)
 }
 
 // One target at the end.
@@ -179,5 +180,5 @@ pub extern "C" fn tivembo_remove_range(c: HostControls, start: u64, end: u64) ->
 pub extern "C" fn tivembo_remove_target(c: HostControls, phase: u64, position: u64) -> HostChanged
     ensures { λ r. ⌜ HostAdded c r (addTargetAnswer (controlsIn c)) (withTarget (controlsIn c) (record { phase = phase; position = position })) ⌝ }
 {
-    asked::remove_target(c, phase, position)
+    added::remove_target(c, phase, position)
 }

@@ -19,18 +19,15 @@ returns : tie.Need-returns
 unfolding hostMode
 returns c = c .refused .ensures ∙ rw (lt-ltb 2 (c .before .before .args .ruleset-mode) (c .before .if1 .taken))
 
-is-known-controls-requires : tie.Need-is-known-controls-requires
-is-known-controls-requires c κs = search needs
-
-refusal-requires : tie.Need-refusal-requires
-refusal-requires c κs = search needs
+refusal-of-requires : tie.Need-refusal-of-requires
+refusal-of-requires c κs = search needs
 
 refused-requires-2 : tie.Need-refused-requires-2
 refused-requires-2 c κs = search needs
 
 returns-2 : tie.Need-returns-2
 unfolding hostMode
-returns-2 c = c .refused2 .ensures ∙ rw (le-ltb 2 (c .before .before .before .before .before .args .ruleset-mode) (c .before .before .before .before .if1 .left)) (refuses (c .before .before .before .before .before .args .c) _ _ (c .before .before .before .is-known-controls .ensures) _ (c .before .before .refusal .ensures) modeNumber (askMode (modeNumbered (c .before .before .before .before .before .args .ruleset-mode)) (controlsIn (c .before .before .before .before .before .args .c))) (c .before .if2 .taken))
+returns-2 c = c .refused2 .ensures ∙ rw (le-ltb 2 (c .before .before .before .before .args .ruleset-mode) (c .before .before .before .if1 .left)) (refuses (c .before .before .before .before .args .c) _ _ (c .before .before .refusal-of .ensures) modeNumber (askMode (modeNumbered (c .before .before .before .before .args .ruleset-mode)) (controlsIn (c .before .before .before .before .args .c))) (c .before .if2 .taken))
 
 controls-from-host-requires : tie.Need-controls-from-host-requires
 controls-from-host-requires c κs = search needs
@@ -46,7 +43,7 @@ mode-number-requires c κs = search needs
 
 returns-3 : tie.Need-returns-3
 unfolding hostMode
-returns-3 c = rw (le-ltb 2 (c .before .before .before .before .before .before .before .before .args .ruleset-mode) (c .before .before .before .before .before .before .before .if1 .left)) (gives (c .before .before .before .before .before .before .before .before .args .c) _ _ (c .before .before .before .before .before .before .is-known-controls .ensures) _ (c .before .before .before .before .before .refusal .ensures) modeNumber (λ x. askMode (modeNumbered (c .before .before .before .before .before .before .before .before .args .ruleset-mode)) (controlsOf x)) _ _ _ _ (c .before .before .before .before .if2 .left) (c .before .before .before .controls-from-host .ensures) (subst (λ (k : RuleEngineMode). Answered (c .before .engine-mode .result .answer) (c .before .engine-mode .result .mode) (askMode k (controlsOf (c .before .before .before .controls-from-host .result)))) (c .before .before .mode-numbered .ensures) (c .before .engine-mode .ensures)) (c .mode-number .ensures))
+returns-3 c = rw (le-ltb 2 (c .before .before .before .before .before .before .before .args .ruleset-mode) (c .before .before .before .before .before .before .if1 .left)) (gives (c .before .before .before .before .before .before .before .args .c) _ _ (c .before .before .before .before .before .refusal-of .ensures) modeNumber (λ x. askMode (modeNumbered (c .before .before .before .before .before .before .before .args .ruleset-mode)) (controlsOf x)) _ _ _ _ (c .before .before .before .before .if2 .left) (c .before .before .before .controls-from-host .ensures) (subst (λ (k : RuleEngineMode). Answered (c .before .engine-mode .result .answer) (c .before .engine-mode .result .mode) (askMode k (controlsOf (c .before .before .before .controls-from-host .result)))) (c .before .before .mode-numbered .ensures) (c .before .engine-mode .ensures)) (c .mode-number .ensures))
 
 pub engine-mode-spec : {M : Type 1} → statement M
 engine-mode-spec =
@@ -54,8 +51,7 @@ engine-mode-spec =
     (tie.spec
     refused-requires
     returns
-    is-known-controls-requires
-    refusal-requires
+    refusal-of-requires
     refused-requires-2
     returns-2
     controls-from-host-requires

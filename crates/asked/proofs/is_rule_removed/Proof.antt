@@ -5,7 +5,7 @@ use Rattle.reading.specs.Controls.{askRemoved}
 use Rattle.questions.specs.Answered.{Answered}
 use Rattle.records.specs.Parts.{numberOf, flagNumber}
 use Rattle.control.specs.Held.{controlsOf}
-use Rattle.asked.proofs.Answers.{refuses, gives}
+use Rattle.asked.proofs.Answers.{told, refuses, gives}
 use Rattle.asked.specs.Asked.{controlsIn, hostRemoved}
 use borrow.Author.Needs.{needs}
 use Rattle.asked.proofs.is_rule_removed.Statement.{statement}
@@ -22,7 +22,7 @@ refused-requires c κs = search needs
 
 returns : tie.Need-returns
 unfolding hostRemoved
-returns c = c .refused .ensures ∙ refuses (c .before .before .before .before .args .c) _ _ (c .before .before .before .are-known .ensures) _ (c .before .before .refusal .ensures) flagNumber (askRemoved (controlsIn (c .before .before .before .before .args .c)) (numberOf (c .before .before .before .before .args .id))) (c .before .if1 .taken)
+returns c = c .refused .ensures ∙ refuses (c .before .before .before .before .args .c) _ _ (told (c .before .before .before .before .args .c) _ _ _ (c .before .before .before .are-known .ensures) (c .before .before .refusal .ensures)) flagNumber (askRemoved (controlsIn (c .before .before .before .before .args .c)) (numberOf (c .before .before .before .before .args .id))) (c .before .if1 .taken)
 
 controls-from-host-requires : tie.Need-controls-from-host-requires
 controls-from-host-requires c κs = search needs
@@ -38,7 +38,7 @@ flag-number-requires c κs = search needs
 
 returns-2 : tie.Need-returns-2
 unfolding hostRemoved
-returns-2 c = gives (c .before .before .before .before .before .before .before .args .c) _ _ (c .before .before .before .before .before .before .are-known .ensures) _ (c .before .before .before .before .before .refusal .ensures) flagNumber (λ x. askRemoved (controlsOf x) (numberOf (c .before .before .before .before .before .before .before .args .id))) _ _ _ _ (c .before .before .before .before .if1 .left) (c .before .before .before .controls-from-host .ensures) (subst (λ (o : OptionU64). Answered (c .before .is-rule-removed .result .answer) (c .before .is-rule-removed .result .removed) (askRemoved (controlsOf (c .before .before .before .controls-from-host .result)) o)) (c .before .before .option-number .ensures) (c .before .is-rule-removed .ensures)) (c .flag-number .ensures)
+returns-2 c = gives (c .before .before .before .before .before .before .before .args .c) _ _ (told (c .before .before .before .before .before .before .before .args .c) _ _ _ (c .before .before .before .before .before .before .are-known .ensures) (c .before .before .before .before .before .refusal .ensures)) flagNumber (λ x. askRemoved (controlsOf x) (numberOf (c .before .before .before .before .before .before .before .args .id))) _ _ _ _ (c .before .before .before .before .if1 .left) (c .before .before .before .controls-from-host .ensures) (subst (λ (o : OptionU64). Answered (c .before .is-rule-removed .result .answer) (c .before .is-rule-removed .result .removed) (askRemoved (controlsOf (c .before .before .before .controls-from-host .result)) o)) (c .before .before .option-number .ensures) (c .before .is-rule-removed .ensures)) (c .flag-number .ensures)
 
 pub is-rule-removed-spec : {M : Type 1} → statement M
 is-rule-removed-spec =

@@ -4,17 +4,14 @@ use borrow.Author.Needs.{needs}
 use Rattle.asked.proofs.target_at.Statement.{statement}
 use Rattle.asked.proofs.target_at.Tie as tie
 
-is-known-controls-requires : tie.Need-is-known-controls-requires
-is-known-controls-requires c κs = search needs
-
-refusal-requires : tie.Need-refusal-requires
-refusal-requires c κs = search needs
+refusal-of-requires : tie.Need-refusal-of-requires
+refusal-of-requires c κs = search needs
 
 host-place-requires : tie.Need-host-place-requires
 host-place-requires c κs = search needs
 
 returns : tie.Need-returns
-returns c = no-target (c .before .before .before .before .args .c) _ (c .before .before .before .is-known-controls .ensures) _ (c .before .before .refusal .ensures) (c .before .before .before .before .args .at) _ (c .before .if1 .taken) (c .host-place .ensures)
+returns c = no-target (c .before .before .before .args .c) _ (c .before .before .refusal-of .ensures) (c .before .before .before .args .at) _ (c .before .if1 .taken) (c .host-place .ensures)
 
 controls-from-host-requires : tie.Need-controls-from-host-requires
 controls-from-host-requires c κs = search needs
@@ -26,14 +23,13 @@ host-place-requires-2 : tie.Need-host-place-requires-2
 host-place-requires-2 c κs = search needs
 
 returns-2 : tie.Need-returns-2
-returns-2 c = target (c .before .before .before .before .before .before .args .c) _ (c .before .before .before .before .before .is-known-controls .ensures) _ (c .before .before .before .before .refusal .ensures) (c .before .before .before .before .before .before .args .at) _ _ _ _ (c .before .before .before .if1 .left) (c .before .before .controls-from-host .ensures) (c .before .target-at .ensures) (c .host-place2 .ensures)
+returns-2 c = target (c .before .before .before .before .before .args .c) _ (c .before .before .before .before .refusal-of .ensures) (c .before .before .before .before .before .args .at) _ _ _ _ (c .before .before .before .if1 .left) (c .before .before .controls-from-host .ensures) (c .before .target-at .ensures) (c .host-place2 .ensures)
 
 pub target-at-spec : {M : Type 1} → statement M
 target-at-spec =
     tie.close
     (tie.spec
-    is-known-controls-requires
-    refusal-requires
+    refusal-of-requires
     host-place-requires
     returns
     controls-from-host-requires

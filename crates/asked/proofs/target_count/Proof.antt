@@ -8,18 +8,15 @@ use borrow.Author.Needs.{needs}
 use Rattle.asked.proofs.target_count.Statement.{statement}
 use Rattle.asked.proofs.target_count.Tie as tie
 
-is-known-controls-requires : tie.Need-is-known-controls-requires
-is-known-controls-requires c κs = search needs
-
-refusal-requires : tie.Need-refusal-requires
-refusal-requires c κs = search needs
+refusal-of-requires : tie.Need-refusal-of-requires
+refusal-of-requires c κs = search needs
 
 refused-requires : tie.Need-refused-requires
 refused-requires c κs = search needs
 
 returns : tie.Need-returns
 unfolding hostTargetCount
-returns c = c .refused .ensures ∙ refuses (c .before .before .before .before .args .c) _ _ (c .before .before .before .is-known-controls .ensures) _ (c .before .before .refusal .ensures) (λ n. n) (askTargetCount (controlsIn (c .before .before .before .before .args .c))) (c .before .if1 .taken)
+returns c = c .refused .ensures ∙ refuses (c .before .before .before .args .c) _ _ (c .before .before .refusal-of .ensures) (λ n. n) (askTargetCount (controlsIn (c .before .before .before .args .c))) (c .before .if1 .taken)
 
 controls-from-host-requires : tie.Need-controls-from-host-requires
 controls-from-host-requires c κs = search needs
@@ -29,14 +26,13 @@ target-count-requires c κs = search needs
 
 returns-2 : tie.Need-returns-2
 unfolding hostTargetCount
-returns-2 c = gives (c .before .before .before .before .before .args .c) _ _ (c .before .before .before .before .is-known-controls .ensures) _ (c .before .before .before .refusal .ensures) (λ n. n) (λ x. askTargetCount (controlsOf x)) _ _ _ _ (c .before .before .if1 .left) (c .before .controls-from-host .ensures) (c .target-count .ensures) refl
+returns-2 c = gives (c .before .before .before .before .args .c) _ _ (c .before .before .before .refusal-of .ensures) (λ n. n) (λ x. askTargetCount (controlsOf x)) _ _ _ _ (c .before .before .if1 .left) (c .before .controls-from-host .ensures) (c .target-count .ensures) refl
 
 pub target-count-spec : {M : Type 1} → statement M
 target-count-spec =
     tie.close
     (tie.spec
-    is-known-controls-requires
-    refusal-requires
+    refusal-of-requires
     refused-requires
     returns
     controls-from-host-requires
