@@ -8,9 +8,9 @@ use Rattle.reading.specs.Controls as reading
 use Rattle.control.specs.declared.Controls.{Controls}
 use Rattle.control.specs.declared.Changed.{Changed}
 use Rattle.control.specs.Held.{controlsOf, Added, Became}
-use Rattle.records.specs.declared.HostControls.{HostControls}
-use Rattle.records.specs.Whole.{knownControls, controlsFromHost, controlsToHost}
-use Rattle.records.proofs.Back.{controls-back}
+use Rattle.numbered.specs.declared.HostControls.{HostControls}
+use Rattle.numbered.specs.Controls.{knownControls, controlsFromHost, controlsToHost}
+use Rattle.numbered.proofs.Back.{controls-back}
 use Rattle.asked.specs.Asked.{controlsIn, refusalIn}
 use Rattle.added.specs.Added.{HostAdded}
 

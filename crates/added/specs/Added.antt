@@ -5,8 +5,8 @@ use mathlib.Core.Bool.{cond}
 use lib.Dec.{eqb}
 use Rattle.reading.specs.Controls as reading
 use Rattle.control.specs.Held.{Became}
-use Rattle.records.specs.declared.HostControls.{HostControls}
-use Rattle.records.specs.Whole.{knownControls, controlsFromHost, controlsToHost}
+use Rattle.numbered.specs.declared.HostControls.{HostControls}
+use Rattle.numbered.specs.Controls.{knownControls, controlsFromHost, controlsToHost}
 use Rattle.asked.specs.Asked.{refusalIn}
 use Rattle.added.specs.declared.HostChanged.{HostChanged}
 

@@ -1,8 +1,8 @@
 // Additions to the controls of a host's record. Each is refused with 3 where the controls are beyond their limits, and then with 5
 // where a number of the record is not known.
+use numbered::HostControls;
 use reading::Place;
 use reading::RuleIdRange;
-use records::HostControls;
 ghost use Rattle.reading.specs.Controls.{withRange, withTarget, addRangeAnswer, addTargetAnswer};
 ghost use Rattle.asked.specs.Asked.{controlsIn};
 ghost use Rattle.added.specs.Added.{HostAdded};
@@ -26,7 +26,7 @@ pub fn remove_range(c: HostControls, start: u64, end: u64) -> HostChanged
             controls: c,
         };
     }
-    let held = records::controls_from_host(c);
+    let held = numbered::controls_from_host(c);
     let added = held.remove_range(RuleIdRange { start, end });
     let answer = added.answer;
     if answer != 0 {
@@ -36,7 +36,7 @@ pub fn remove_range(c: HostControls, start: u64, end: u64) -> HostChanged
         };
     }
     let after = added.controls;
-    let controls = records::controls_to_host(after);
+    let controls = numbered::controls_to_host(after);
     HostChanged {
         answer: 0,
         controls,
@@ -54,7 +54,7 @@ pub fn remove_target(c: HostControls, phase: u64, position: u64) -> HostChanged
             controls: c,
         };
     }
-    let held = records::controls_from_host(c);
+    let held = numbered::controls_from_host(c);
     let added = held.remove_target(Place { phase, position });
     let answer = added.answer;
     if answer != 0 {
@@ -64,7 +64,7 @@ pub fn remove_target(c: HostControls, phase: u64, position: u64) -> HostChanged
         };
     }
     let after = added.controls;
-    let controls = records::controls_to_host(after);
+    let controls = numbered::controls_to_host(after);
     HostChanged {
         answer: 0,
         controls,

@@ -10,10 +10,10 @@ use Rattle.control.specs.declared.Controls.{Controls}
 use Rattle.control.specs.Held.{controlsOf}
 use Rattle.control.proofs.HeldLaws.{beyond}
 use Rattle.questions.specs.Answered.{Answered}
-use Rattle.records.specs.declared.HostControls.{HostControls}
-use Rattle.records.specs.declared.HostPlace.{HostPlace}
-use Rattle.records.specs.Parts.{hostPlace}
-use Rattle.records.specs.Whole.{knownControls, controlsFromHost}
+use Rattle.numbered.specs.declared.HostControls.{HostControls}
+use Rattle.numbered.specs.declared.HostPlace.{HostPlace}
+use Rattle.numbered.specs.Parts.{hostPlace}
+use Rattle.numbered.specs.Controls.{knownControls, controlsFromHost}
 use Rattle.asked.specs.Asked.{controlsIn, refusalIn, answered, hostTarget}
 
 -- n is what `refusal` gave of b, and b what was asked of the numbers

@@ -7,11 +7,11 @@ use Rattle.reading.specs.Numbers.{modeNumbered, modeNumber, accessNumber, proce
 use Rattle.reading.specs.Controls.{Asked, beyondLimits, askMode, askRemoved, askTargetCount, askTarget, askAccess, askProcessor}
 use Rattle.reading.specs.Controls as reading
 use Rattle.control.specs.Held.{controlsOf}
-use Rattle.records.specs.declared.HostControls.{HostControls}
-use Rattle.records.specs.declared.HostNumber.{HostNumber}
-use Rattle.records.specs.declared.HostPlace.{HostPlace}
-use Rattle.records.specs.Parts.{numberKnown, numberOf, flagNumber, hostPlace}
-use Rattle.records.specs.Whole.{knownControls, controlsFromHost}
+use Rattle.numbered.specs.declared.HostControls.{HostControls}
+use Rattle.numbered.specs.declared.HostNumber.{HostNumber}
+use Rattle.numbered.specs.declared.HostPlace.{HostPlace}
+use Rattle.numbered.specs.Parts.{numberKnown, numberOf, flagNumber, hostPlace}
+use Rattle.numbered.specs.Controls.{knownControls, controlsFromHost}
 use Rattle.asked.specs.declared.HostAsked.{HostAsked}
 use Rattle.asked.specs.declared.HostTarget.{HostTarget}
 

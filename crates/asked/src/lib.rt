@@ -1,16 +1,16 @@
 // Questions to the controls of a host's record, by number. Each answers 3 where the controls are beyond their limits, and then 5
 // where a number of the record is not known.
+use numbered::HostControls;
+use numbered::HostNumber;
+use numbered::HostPlace;
 use reading::OptionPlace;
 use reading::RuleEngineMode;
-use records::HostControls;
-use records::HostNumber;
-use records::HostPlace;
 ghost use mathlib.Core.Path.{_≡_};
 ghost use mathlib.Core.Bool.{cond, _||_, _&&_};
 ghost use lib.Dec.{ltb};
 ghost use Rattle.reading.specs.Numbers.{modeNumbered};
-ghost use Rattle.records.specs.Parts.{numberKnown};
-ghost use Rattle.records.specs.Whole.{knownControls};
+ghost use Rattle.numbered.specs.Parts.{numberKnown};
+ghost use Rattle.numbered.specs.Controls.{knownControls};
 ghost use Rattle.asked.specs.Asked.{refusalIn, hostMode, hostRemoved, hostTargetCount, hostTarget, hostAccess, hostProcessor};
 
 // The answer to a question: 0 and the number of a value, or the number of a refusal and 0.
@@ -56,7 +56,7 @@ fn refusal(ranges: u64, targets: u64, known: bool) -> u64
 pub fn refusal_of(c: HostControls) -> u64
     ensures { λ r. ⌜ r ≡ refusalIn c (knownControls c) ⌝ }
 {
-    refusal(c.ranges, c.targets, records::is_known_controls(c))
+    refusal(c.ranges, c.targets, numbered::is_known_controls(c))
 }
 
 fn refused(answer: u64) -> HostAsked
@@ -76,9 +76,9 @@ pub fn engine_mode(c: HostControls, ruleset_mode: u64) -> HostAsked
     if n != 0 {
         return refused(n);
     }
-    let q = questions::engine_mode(records::controls_from_host(c), mode_numbered(ruleset_mode));
+    let q = questions::engine_mode(numbered::controls_from_host(c), mode_numbered(ruleset_mode));
     let mode = q.mode;
-    let value = records::mode_number(mode);
+    let value = numbered::mode_number(mode);
     HostAsked { answer: 0, value }
 }
 
@@ -86,10 +86,10 @@ pub fn engine_mode(c: HostControls, ruleset_mode: u64) -> HostAsked
 fn are_known(c: HostControls, id: HostNumber) -> bool
     ensures { λ r. ⌜ r ≡ (knownControls c && numberKnown id) ⌝ }
 {
-    if !records::is_known_controls(c) {
+    if !numbered::is_known_controls(c) {
         return false;
     }
-    records::is_number_known(id)
+    numbered::is_number_known(id)
 }
 
 // Whether a rule of this id, or of none, is removed: 1 or 0.
@@ -100,8 +100,11 @@ pub fn is_rule_removed(c: HostControls, id: HostNumber) -> HostAsked
     if n != 0 {
         return refused(n);
     }
-    let q = questions::is_rule_removed(records::controls_from_host(c), records::option_number(id));
-    let value = records::flag_number(q.removed);
+    let q = questions::is_rule_removed(
+        numbered::controls_from_host(c),
+        numbered::option_number(id),
+    );
+    let value = numbered::flag_number(q.removed);
     HostAsked { answer: 0, value }
 }
 
@@ -112,7 +115,7 @@ pub fn target_count(c: HostControls) -> HostAsked
     if n != 0 {
         return refused(n); // and not counted
     }
-    let q = questions::target_count(records::controls_from_host(c));
+    let q = questions::target_count(numbered::controls_from_host(c));
     HostAsked {
         answer: 0,
         value: q.count as u64,
@@ -125,12 +128,12 @@ pub fn target_at(c: HostControls, at: u64) -> HostTarget
 {
     let n = refusal_of(c);
     if n != 0 {
-        let target = records::host_place(OptionPlace::None);
+        let target = numbered::host_place(OptionPlace::None);
         return HostTarget { answer: n, target };
     }
-    let q = questions::target_at(records::controls_from_host(c), at as usize);
+    let q = questions::target_at(numbered::controls_from_host(c), at as usize);
     let found = q.target;
-    let target = records::host_place(found);
+    let target = numbered::host_place(found);
     HostTarget { answer: 0, target }
 }
 
@@ -142,9 +145,9 @@ pub fn request_body_access(c: HostControls) -> HostAsked
     if n != 0 {
         return refused(n); // whatever access is set
     }
-    let q = questions::request_body_access(records::controls_from_host(c));
+    let q = questions::request_body_access(numbered::controls_from_host(c));
     let access = q.access;
-    let value = records::access_number(access);
+    let value = numbered::access_number(access);
     HostAsked { answer: 0, value }
 }
 
@@ -156,8 +159,8 @@ pub fn request_body_processor(c: HostControls) -> HostAsked
     if n != 0 {
         return refused(n); // whatever processor is set
     }
-    let q = questions::request_body_processor(records::controls_from_host(c));
+    let q = questions::request_body_processor(numbered::controls_from_host(c));
     let processor = q.processor;
-    let value = records::processor_setting_number(processor);
+    let value = numbered::processor_setting_number(processor);
     HostAsked { answer: 0, value }
 }

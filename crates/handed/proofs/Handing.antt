@@ -23,8 +23,9 @@ use Rattle.phase.specs.declared.Transaction.{Transaction}
 use Rattle.phase.specs.Phase.{transactionOf, callOf, outcomeFound, Ran}
 use Rattle.phase.proofs.Promise.{length-data-list, length-journal-list}
 use Rattle.records.specs.declared.HostTransaction.{HostTransaction}
-use Rattle.records.specs.Whole.{controlsFromHost, controlsToHost, known, fromHost, toHost}
-use Rattle.records.specs.Parts.{flagNumber}
+use Rattle.numbered.specs.Controls.{controlsFromHost, controlsToHost}
+use Rattle.records.specs.Whole.{known, fromHost, toHost}
+use Rattle.numbered.specs.Parts.{flagNumber}
 use Rattle.records.proofs.Back.{back, forth}
 use Rattle.lent.specs.declared.Answer.{Answer}
 use Rattle.lent.specs.Lent.{callLent, phaseOf}

@@ -12,8 +12,10 @@ use Rattle.records.specs.declared.HostTransaction.{HostTransaction}
 use Rattle.reading.specs.declared.OptionIntervention.{OptionIntervention}
 use Rattle.phase.specs.declared.Transaction.{Transaction}
 use Rattle.records.specs.declared.HostIntervention.{HostIntervention}
-use Rattle.records.specs.Parts.{flagNumber, hostIntervention}
-use Rattle.records.specs.Whole.{controlsToHost, known, fromHost, toHost}
+use Rattle.numbered.specs.Parts.{flagNumber}
+use Rattle.records.specs.Parts.{hostIntervention}
+use Rattle.numbered.specs.Controls.{controlsToHost}
+use Rattle.records.specs.Whole.{known, fromHost, toHost}
 use Rattle.lent.specs.Lent.{phaseOf}
 use Rattle.handed.specs.declared.HostAnswer.{HostAnswer}
 

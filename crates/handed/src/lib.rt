@@ -95,8 +95,8 @@ fn intervention_after(
 fn written(before: HostIntervention, visits: usize, t: Transaction) -> HostTransaction
     ensures { λ r. ⌜ r ≡ writtenOf before visits t ⌝ }
 {
-    let controls = records::controls_to_host(t.controls);
-    let allowed = records::flag_number(t.allowed);
+    let controls = numbered::controls_to_host(t.controls);
+    let allowed = numbered::flag_number(t.allowed);
     let found = t.intervention;
     let intervention = intervention_after(before, visits, found);
     HostTransaction {

@@ -4,14 +4,14 @@ use added::HostChanged;
 use asked::HostAsked;
 use asked::HostTarget;
 use handed::HostAnswer;
+use numbered::HostControls;
+use numbered::HostNumber;
 use reader::DirectiveRead;
 use reading::BodyAccess;
 use reading::BodyProcessor;
 use reading::CtlDirective;
 use reading::Marker;
 use reading::RuleEngineMode;
-use records::HostControls;
-use records::HostNumber;
 use records::HostTransaction;
 ghost use mathlib.Core.Path.{_≡_};
 ghost use Rattle.reading.specs.Directive.{readerOutcome};
@@ -52,11 +52,11 @@ fn value_of(d: CtlDirective) -> u64
 {
     match d {
         CtlDirective::Unsupported => 0,
-        CtlDirective::RuleEngine(m) => records::mode_number(m),
+        CtlDirective::RuleEngine(m) => numbered::mode_number(m),
         CtlDirective::RuleRemoveById(n) => n as u64,
         CtlDirective::RuleRemoveTargetById(cut) => cut as u64,
-        CtlDirective::RequestBodyAccess(a) => records::access_number(a),
-        CtlDirective::RequestBodyProcessor(p) => records::processor_number(p),
+        CtlDirective::RequestBodyAccess(a) => numbered::access_number(a),
+        CtlDirective::RequestBodyProcessor(p) => numbered::processor_number(p),
     }
 }
 

@@ -3,7 +3,7 @@ use mathlib.Core.Path.{subst, _∙_}
 use Rattle.reading.specs.declared.OptionU64.{OptionU64}
 use Rattle.reading.specs.Controls.{askRemoved}
 use Rattle.questions.specs.Answered.{Answered}
-use Rattle.records.specs.Parts.{numberOf, flagNumber}
+use Rattle.numbered.specs.Parts.{numberOf, flagNumber}
 use Rattle.control.specs.Held.{controlsOf}
 use Rattle.asked.proofs.Answers.{told, refuses, gives}
 use Rattle.asked.specs.Asked.{controlsIn, hostRemoved}

@@ -5,7 +5,7 @@ use mathlib.Core.List.{List, map}
 use lib.ListN.{length, length-map}
 use denote.Ref.{now}
 use Rattle.control.proofs.Determined.{SameSizes}
-use Rattle.records.specs.Whole.{controlsFromHost}
+use Rattle.numbered.specs.Controls.{controlsFromHost}
 use borrow.Author.Needs.{needs}
 use borrow.Author.Tests.{not-true, not-false}
 use Rattle.markers.specs.declared.Unpacked.{Unpacked}
