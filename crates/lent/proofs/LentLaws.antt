@@ -1,6 +1,6 @@
 -- The call on unpacked markers is the call on the records: up to 257 they are the same list, and above that both calls are refused
 -- with the same number. Assumes nothing.
-use Prim.Native.Nat.{ℕ, zero, suc, _+_, _*_, _/_, _<_, _≤_}
+use Prim.Native.Nat.{ℕ, zero, suc, _+_, _-_, _*_, _/_, _<_, _≤_}
 use mathlib.Core.Path.{_≡_, refl, sym, _∙_, ap, subst}
 use mathlib.Core.Bool.{Bool, true, false, cond, _||_}
 use mathlib.Core.List.{List, [], _∷_, _++_}
@@ -77,6 +77,15 @@ few-words n = by (ltb 257 n) refl
     by : (b : Bool) → ltb 257 n ≡ b → cond b 771 (3 * n) ≤ 771
     by true e = omega arith
     by false e = omega (arith, ltb-false 257 n e)
+
+-- the part from 0 to n is the first n numbers
+pub ran-part : (phase mode status : ℕ) (rules actions words text outcomes : List ℕ) (t : Transaction) (ids entries journal : List ℕ) (n k : ℕ)
+    (r : Phase) (ids′ entries′ journal′ : List ℕ) → n ≡ k
+    → Ran (callOf phase mode status rules actions (take (n - 0) (drop 0 words)) text outcomes t ids entries journal) t entries journal r ids′ entries′ journal′
+    → Ran (callOf phase mode status rules actions (take k words) text outcomes t ids entries journal) t entries journal r ids′ entries′ journal′
+ran-part phase mode status rules actions words text outcomes t ids entries journal n k r ids′ entries′ journal′ e =
+    let z : n - 0 ≡ k = omega (arith, e) in
+    subst (λ (j : ℕ). Ran (callOf phase mode status rules actions (take j (drop 0 words)) text outcomes t ids entries journal) t entries journal r ids′ entries′ journal′) z
 
 -- CALLS THAT ARE REFUSED
 
