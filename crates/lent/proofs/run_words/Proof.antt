@@ -51,7 +51,9 @@ returns : tie.Need-returns
 returns c =
     let p = c .before .before .before .before .before .before .before in
     let n = counted p in
-    ran-part _ _ _ _ _ _ _ _ _ _ _ _ _ _ _ _ _ _ (n .word-count .ensures) (p .run-phase .ensures)
+    let a = begun n .args in
+    ran-part (a .phase) (a .mode) (a .status) (now (a .rules)) (now (a .actions)) (now (a .words)) (now (a .text)) (now (a .outcomes)) (a .t) (now (a .ids)) (now (a .entries)) (now (a .journal))
+    _ _ _ _ _ _ (n .word-count .ensures) (p .run-phase .ensures)
 
 pub run-words-spec : {M : Type 1} → statement M
 run-words-spec =
