@@ -1,5 +1,5 @@
 -- `handed::host_phase` meets its contract.
-use mathlib.Core.Path.{_≡_, refl, sym, ap, _∙_}
+use mathlib.Core.Path.{_≡_, refl, sym, _∙_}
 use Prim.Native.Nat.{ℕ}
 use mathlib.Core.List.{List, map}
 use lib.ListN.{length, length-map}
@@ -8,9 +8,10 @@ use Rattle.control.proofs.Determined.{SameSizes}
 use Rattle.records.specs.Whole.{controlsFromHost}
 use borrow.Author.Needs.{needs}
 use borrow.Author.Tests.{not-true, not-false}
-use Rattle.markers.specs.declared.Unpacked.{Unpacked}
-use Rattle.lent.specs.Lent.{callLent}
-use Rattle.handed.proofs.Handing.{turned, handed}
+use Rattle.reading.specs.Records.{markerList}
+use Rattle.phase.specs.Phase.{callOf}
+use Rattle.lent.specs.Lent.{lentPart}
+use Rattle.handed.proofs.Handing.{turned, many-lent, handed}
 use Rattle.handed.proofs.host_phase.Statement.{statement}
 use Rattle.handed.proofs.host_phase.Tie as tie
 
@@ -36,14 +37,20 @@ sizes c =
 is-known-requires : tie.Need-is-known-requires
 is-known-requires c κs = search needs
 
+sizes-of-requires : tie.Need-sizes-of-requires
+sizes-of-requires c κs = search needs
+
 unknown-requires : tie.Need-unknown-requires
 unknown-requires c κs = search needs
 
 returns : tie.Need-returns
-returns c ms e =
-    let a = c .before .before .before .before .before .before .before .before .before .before .args in
-    turned (a .phase) (a .mode) (a .status) (now (a .rules)) (now (a .actions)) ms (now (a .text)) (now (a .outcomes)) (a .h) (now (a .ids)) (now (a .entries)) (now (a .journal)) (a .markers .count) (c .unknown .result)
-    (ap (λ (u : Unpacked). u .count) e) (sym (c .before .before .is-known .ensures) ∙ not-true _ (c .before .if1 .taken)) (c .unknown .ensures)
+returns c =
+    let s = c .before .before .before .before .before .before .before .before .before .before .before in
+    let a = s .args in
+    turned (a .phase) (a .mode) (a .status) (now (a .rules)) (now (a .actions)) (markerList (lentPart (a .markers))) (now (a .text)) (now (a .outcomes)) (a .h) (now (a .ids)) (now (a .entries)) (now (a .journal))
+    (a .markers .count) (c .unknown .result) (c .before .sizes-of .result) (c .before .sizes-of .ensures)
+    (many-lent (a .markers) (long (a .markers .words) 771 (s .good .1 .1 .1 .1 .1 .1 .0 .1 .1 .0 .1 .0 .1)))
+    (sym (c .before .before .before .is-known .ensures) ∙ not-true _ (c .before .before .if1 .taken)) (c .unknown .ensures)
 
 from-host-requires : tie.Need-from-host-requires
 from-host-requires c κs = search needs
@@ -64,21 +71,22 @@ same-length-3 : tie.Need-same-length-3
 same-length-3 c = search needs
 
 returns-2 : tie.Need-returns-2
-returns-2 c ms e =
+returns-2 c =
     let p = c .before .before .before .before .before .before .before .before .before in
     let a = p .before .before .before .before .before .before .before .before .before .before .before .before .before .before .args in
     let known = p .before .before .before .before .before .before in
     handed (a .h) (p .before .before .before .before .from-host .result) (p .before .before .before .before .from-host .ensures)
-    (λ x. callLent (a .phase) (a .mode) (a .status) (now (a .rules)) (now (a .actions)) ms (now (a .text)) (now (a .outcomes)) x (now (a .ids)) (now (a .entries)) (now (a .journal)))
+    (λ x. callOf (a .phase) (a .mode) (a .status) (now (a .rules)) (now (a .actions)) (lentPart (a .markers)) (now (a .text)) (now (a .outcomes)) x (now (a .ids)) (now (a .entries)) (now (a .journal)))
     (λ x. refl) (now (a .ids)) (now (a .entries)) (now (a .journal)) _ _ _ (p .run-unpacked .result .answer) (p .run-unpacked .result .transaction)
     (sym (known .is-known .ensures) ∙ not-false _ (p .before .before .before .before .before .if1 .left))
-    (sizes p) (p .run-unpacked .ensures ms e) _ (c .written .ensures)
+    (sizes p) (p .run-unpacked .ensures) _ (c .written .ensures)
 
 pub host-phase-spec : {M : Type 1} → statement M
 host-phase-spec =
     tie.close
     (tie.spec
     is-known-requires
+    sizes-of-requires
     unknown-requires
     returns
     from-host-requires
