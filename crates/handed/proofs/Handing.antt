@@ -140,7 +140,7 @@ module _ (phase mode status : ℕ) (rules actions : List ℕ) (ms : List Marker)
 
 -- THE MARKERS THAT ARE LENT ON
 
--- there are too many of the markers that are read where there are too many
+-- the markers that are read are too many for a call exactly where all of them are
 pub many-lent : (m : Unpacked) → length (m .words) ≡ 771 → ltb 256 (m .count) ≡ ltb 256 (length (markerList (lentPart m)))
 many-lent m full = by (ltb 257 (m .count)) refl
   where
