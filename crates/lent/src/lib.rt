@@ -32,8 +32,7 @@ fn word_count(count: usize) -> usize
 }
 
 // The phase call by value, on a list of so many markers as numbers, the list cut off behind 257 markers: that is still more than a
-// call takes, and the call answers as for the whole list. The array is lent to this function, for only of a lent list can a part be
-// lent on, and a copy of it is 6 KB.
+// call takes, and the call answers as for the whole list. The array is lent to this function so that a part of it can be lent on.
 fn run_words(
     t: Transaction,
     phase: u64,
