@@ -163,14 +163,15 @@ pub fn host_phase(
         };
     }
     let t = records::from_host(h);
-    let p = lent::run_unpacked(
+    let p = lent::run_words(
         t,
         phase,
         mode,
         status,
         rules,
         actions,
-        markers,
+        &markers.words,
+        markers.count,
         text,
         outcomes,
         ids,

@@ -3,7 +3,9 @@ use markers::Unpacked;
 use phase::Transaction;
 use reading::Marker;
 ghost use mathlib.Core.Path.{_≡_};
-ghost use lib.ListN.{length, take};
+ghost use mathlib.Core.Bool.{cond};
+ghost use lib.Dec.{ltb};
+ghost use lib.ListN.{take};
 ghost use Rattle.phase.specs.Phase.{Ran, callOf};
 ghost use Rattle.lent.specs.Lent.{callLent, phaseOf, lentWords, lentPart};
 
@@ -31,9 +33,20 @@ fn word_count(count: usize) -> usize
     3 * count
 }
 
+// The same, of a list that may be shorter.
+fn part_length(count: usize, length: usize) -> usize
+    ensures { λ r. ⌜ r ≡ cond (ltb length (lentWords count)) length (lentWords count) ⌝ }
+{
+    let n = word_count(count);
+    if length < n {
+        return length;
+    }
+    n
+}
+
 // The phase call by value, on a list of so many markers as numbers, the list cut off behind 257 markers: that is still more than a
-// call takes, and the call answers as for the whole list. The array is lent to this function so that a part of it can be lent on.
-fn run_words(
+// call takes, and the call answers as for the whole list.
+pub fn run_words(
     t: Transaction,
     phase: u64,
     mode: u64,
@@ -48,11 +61,10 @@ fn run_words(
     entries: &mut [u64],
     journal: &mut [u64],
 ) -> Handed
-    requires { ⌜ length (now words) ≡ 771 ⌝ }
     ensures { λ r. ⌜ Ran (callOf phase mode status (now (rules .entry)) (now (actions .entry)) (take (lentWords count) (now (words .entry))) (now (text .entry)) (now (outcomes .entry)) t (now (ids .entry)) (now (entries .entry)) (now (journal .entry)))
         t (now (entries .entry)) (now (journal .entry)) (phaseOf (r .answer) (r .transaction)) (now (ids .exit)) (now (entries .exit)) (now (journal .exit)) ⌝ }
 {
-    let n = word_count(count);
+    let n = part_length(count, words.len());
     let p = transaction::run_phase(
         t,
         phase,
