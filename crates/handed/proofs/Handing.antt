@@ -1,12 +1,13 @@
 -- A call on a host's record: turned away, without a visit, and with one. Assumes nothing.
-use Prim.Native.Nat.{ℕ, _+_, _-_, _/_}
+use Prim.Native.Nat.{ℕ, _+_, _-_, _*_, _/_}
 use mathlib.Core.Path.{_≡_, refl, sym, ap, subst, _∙_}
 use mathlib.Core.Bool.{Bool, true, false, cond, _||_}
 use mathlib.Core.List.{List, [], _∷_}
 use native.Mathlib.Omega.{arith}
 use lib.ListN.{length, take, drop}
 use lib.Dec.{ltb, eqb}
-use borrow.Author.Tests.{eqb-true}
+use lib.Seq.{length-take-le}
+use borrow.Author.Tests.{eqb-true, lt-ltb, ltb-true}
 use Rattle.reading.specs.declared.Marker.{Marker}
 use Rattle.reading.specs.Records.{markerList}
 use Rattle.reading.specs.Call.{Call, ruleCount}
@@ -14,10 +15,14 @@ use Rattle.reading.specs.Call as reading
 use Rattle.reading.specs.Refusals.{refused1, refused2, refused3, refused4, refused5, refused6, refused7}
 use Rattle.reading.specs.Walk.{Visit}
 use Rattle.reading.specs.Outcome.{Outcome, visitsOf, outcomeOf, transactionAfter}
+use Rattle.text.proofs.RecordLaws.{length-markers}
 use Rattle.control.specs.Held.{Became}
 use Rattle.control.proofs.Determined.{SameSizes, determined}
 use Rattle.control.proofs.HeldLaws.{ranges-length, targets-length}
 use Rattle.refusals.specs.declared.Sizes.{Sizes}
+use Rattle.markers.specs.declared.Unpacked.{Unpacked}
+use Rattle.markers.specs.Unpacked.{unpackedOf}
+use Rattle.markers.proofs.Padded.{words-length}
 use Rattle.refusals.specs.Lent.{Lent, firstOfSeven}
 use Rattle.phase.specs.declared.Transaction.{Transaction}
 use Rattle.phase.specs.Phase.{transactionOf, callOf, outcomeFound, Ran}
@@ -28,9 +33,10 @@ use Rattle.records.specs.Whole.{known, fromHost, toHost}
 use Rattle.numbered.specs.Parts.{flagNumber}
 use Rattle.records.proofs.Back.{back, forth}
 use Rattle.lent.specs.declared.Answer.{Answer}
-use Rattle.lent.specs.Lent.{callLent, phaseOf}
+use Rattle.lent.specs.Lent.{callLent, phaseOf, lentWords, lentPart}
+use Rattle.lent.proofs.LentLaws.{few-words, ran-lent}
 use Rattle.handed.specs.declared.HostAnswer.{HostAnswer}
-use Rattle.handed.specs.Handed.{phaseFound, unknownAnswer, TurnedAway, HostRan, keptOf, interventionAfter, writtenOf}
+use Rattle.handed.specs.Handed.{phaseFound, unknownAnswer, TurnedAway, HostRan, keptOf, sizesOf, interventionAfter, writtenOf}
 
 -- a test that is true is not false
 abbrev Holds : Bool → Type 0
@@ -82,18 +88,7 @@ module _ (phase mode status : ℕ) (rules actions : List ℕ) (ms : List Marker)
   abbrev bare : Call
   bare = callOf phase mode status rules actions [] text outcomes (fromHost h) ids entries journal
 
-  abbrev sizesOf : Sizes
-  sizesOf = record {
-    ranges = h .controls .ranges;
-    targets = h .controls .targets;
-    «ids_used» = h .ids;
-    «entries_used» = h .entries;
-    ids = length ids;
-    entries = length entries / 4;
-    journal = length journal / 2;
-  }
-
-  bare-lent : Lent bare phase mode rules actions [] text outcomes sizesOf
+  bare-lent : Lent bare phase mode rules actions [] text outcomes (sizesOf h (length ids) (length entries) (length journal))
   unfolding fromHost controlsFromHost
   bare-lent = record {
     phase-is = refl;
@@ -124,12 +119,14 @@ module _ (phase mode status : ℕ) (rules actions : List ℕ) (ms : List Marker)
       ∙ ap (λ (b : Bool). cond (refused1 q) 1 (cond b 2 (cond (refused3 q) 3 (cond (refused4 q) 4 5)))) (sym second)
 
   -- n is what `unknown` gave, of so many markers
-  pub turned : (count n : ℕ) → count ≡ length ms → known h ≡ false
-      → ((p : Call) → Lent p phase mode rules actions [] text outcomes sizesOf → n ≡ keptOf (firstOfSeven p) (ltb 256 count))
+  pub turned : (count n : ℕ) (sizes : Sizes) → sizes ≡ sizesOf h (length ids) (length entries) (length journal)
+      → ltb 256 count ≡ ltb 256 (length ms) → known h ≡ false
+      → ((p : Call) → Lent p phase mode rules actions [] text outcomes sizes → n ≡ keptOf (firstOfSeven p) (ltb 256 count))
       → HostRan h q ids entries journal (record { answer = n; error = 0; visits = 0 }) h ids entries journal
-  turned count n e k is =
+  turned count n sizes s e k is =
       let m : n ≡ unknownAnswer q
-      = is bare bare-lent ∙ (ap (λ (i : ℕ). keptOf (firstOfSeven bare) (ltb 256 i)) e ∙ four) in
+      = is bare (subst (λ (z : Sizes). Lent bare phase mode rules actions [] text outcomes z) (sym s) bare-lent)
+      ∙ (ap (λ (b : Bool). keptOf (firstOfSeven bare) b) e ∙ four) in
       record {
         ran = λ y. absurd (not-both (known h) y k);
         record-is = λ y. absurd (not-both (known h) y k);
@@ -141,6 +138,54 @@ module _ (phase mode status : ℕ) (rules actions : List ℕ) (ms : List Marker)
           journal-is = refl;
         };
       }
+
+-- THE MARKERS THAT ARE LENT ON
+
+-- the markers that are read are too many for a call exactly where all of them are
+pub many-lent : (m : Unpacked) → length (m .words) ≡ 771 → ltb 256 (m .count) ≡ ltb 256 (length (markerList (lentPart m)))
+many-lent m full = by (ltb 257 (m .count)) refl
+  where
+    read : length (markerList (lentPart m)) ≡ lentWords (m .count) / 3
+    read = length-markers (lentPart m) ∙ ap (λ (n : ℕ). n / 3) (length-take-le (lentWords (m .count)) (m .words) (omega (arith, full, few-words (m .count))))
+
+    by : (b : Bool) → ltb 257 (m .count) ≡ b → ltb 256 (m .count) ≡ ltb 256 (length (markerList (lentPart m)))
+    by true o =
+        let n : lentWords (m .count) ≡ 771 = ap (λ (b : Bool). cond b 771 (3 * m .count)) o in
+        lt-ltb 256 (m .count) (omega (arith, ltb-true 257 (m .count) o)) ∙ sym (lt-ltb 256 (length (markerList (lentPart m))) (omega (arith, read, n)))
+    by false o =
+        let n : lentWords (m .count) ≡ 3 * m .count = ap (λ (b : Bool). cond b 771 (3 * m .count)) o in
+        let same : m .count ≡ length (markerList (lentPart m)) = omega (arith, read, n) in
+        ap (ltb 256) same
+
+-- what the call on the first numbers of unpacked markers leaves of a record, the call on the marker records leaves
+pub host-lent : (phase mode status : ℕ) (rules actions : List ℕ) (ms : List Marker) (text outcomes : List ℕ) (h : HostTransaction)
+    (ids entries journal : List ℕ) (a : HostAnswer) (h′ : HostTransaction) (ids′ entries′ journal′ : List ℕ)
+    → HostRan h (callOf phase mode status rules actions (lentPart (unpackedOf ms)) text outcomes (fromHost h) ids entries journal) ids entries journal a h′ ids′ entries′ journal′
+    → HostRan h (callLent phase mode status rules actions ms text outcomes (fromHost h) ids entries journal) ids entries journal a h′ ids′ entries′ journal′
+host-lent phase mode status rules actions ms text outcomes h ids entries journal a h′ ids′ entries′ journal′ r = record {
+  ran = λ k. ran-lent phase mode status rules actions ms text outcomes (fromHost h) ids entries journal (lentPart (unpackedOf ms))
+      (phaseFound a h′) ids′ entries′ journal′ refl (r .ran k);
+  record-is = r .record-is;
+  turned-away = λ k. record {
+    answer = r .turned-away k .answer ∙ ap (λ (n : ℕ). record { answer = n; error = 0; visits = 0 }) (sym (kept (markerList (lentPart (unpackedOf ms)))) ∙ (counted ∙ kept ms));
+    transaction = r .turned-away k .transaction;
+    ids-are = r .turned-away k .ids-are;
+    entries-are = r .turned-away k .entries-are;
+    journal-is = r .turned-away k .journal-is;
+  };
+}
+  where
+    bareCall : Call
+    bareCall = callOf phase mode status rules actions [] text outcomes (fromHost h) ids entries journal
+
+    keeps : Bool → ℕ
+    keeps b = keptOf (firstOfSeven bareCall) b
+
+    kept : (l : List Marker) → keeps (ltb 256 (length l)) ≡ unknownAnswer (callLent phase mode status rules actions l text outcomes (fromHost h) ids entries journal)
+    kept l = four phase mode status rules actions l text outcomes h ids entries journal
+
+    counted : keeps (ltb 256 (length (markerList (lentPart (unpackedOf ms))))) ≡ keeps (ltb 256 (length ms))
+    counted = ap keeps (sym (many-lent (unpackedOf ms) (words-length ms)))
 
 -- a call without a visit leaves the transaction
 no-entries : {A : Type 0} (l : List A) → length l ≡ 0 → l ≡ []

@@ -1,11 +1,12 @@
 -- What the phase call promises a host that lends its transaction as a record of numbers.
-use Prim.Native.Nat.{ℕ}
+use Prim.Native.Nat.{ℕ, _/_}
 use mathlib.Core.Path.{_≡_}
 use mathlib.Core.Bool.{Bool, true, false, cond, _&&_}
 use mathlib.Core.List.{List}
 use lib.Dec.{eqb, leb}
 use Rattle.reading.specs.Call.{Call}
 use Rattle.reading.specs.Refusals.{refused1, refused2, refused3, refused4}
+use Rattle.refusals.specs.declared.Sizes.{Sizes}
 use Rattle.phase.specs.declared.Phase.{Phase}
 use Rattle.phase.specs.Phase.{Ran}
 use Rattle.records.specs.declared.HostTransaction.{HostTransaction}
@@ -53,6 +54,18 @@ pub record HostRan (h : HostTransaction) (q : Call) (ids entries journal : List 
 -- what is left of the first of refusals 1 to 7, found without the markers, where 5 follows 4 and there are too many markers or not
 abbrev pub keptOf : ℕ → Bool → ℕ
 keptOf n many = cond (eqb n 1) 1 (cond many 2 (cond (leb 2 n && leb n 4) n 5))
+
+-- what the record counts, and how many entries lists of so many numbers have: four to a data entry, two to an entry of the journal
+abbrev pub sizesOf : HostTransaction → ℕ → ℕ → ℕ → Sizes
+sizesOf h ids entries journal = record {
+  ranges = h .controls .ranges;
+  targets = h .controls .targets;
+  «ids_used» = h .ids;
+  «entries_used» = h .entries;
+  ids = ids;
+  entries = entries / 4;
+  journal = journal / 2;
+}
 
 -- the intervention and the record that are written: without a visit the intervention is as lent
 unfoldable pub interventionAfter : HostIntervention → ℕ → OptionIntervention → HostIntervention

@@ -6,15 +6,14 @@ use records::HostIntervention;
 use records::HostTransaction;
 use refusals::Sizes;
 ghost use mathlib.Core.Path.{_≡_};
-ghost use mathlib.Core.List.{List, []};
+ghost use mathlib.Core.List.{[]};
 ghost use lib.Dec.{ltb};
-ghost use Rattle.reading.specs.declared.Marker.{Marker};
 ghost use Rattle.reading.specs.Call.{Call};
 ghost use Rattle.refusals.specs.Lent.{Lent, firstOfSeven};
-ghost use Rattle.markers.specs.Unpacked.{unpackedOf};
+ghost use Rattle.phase.specs.Phase.{callOf};
 ghost use Rattle.records.specs.Whole.{fromHost};
-ghost use Rattle.lent.specs.Lent.{callLent};
-ghost use Rattle.handed.specs.Handed.{keptOf, interventionAfter, writtenOf, HostRan};
+ghost use Rattle.lent.specs.Lent.{lentPart};
+ghost use Rattle.handed.specs.Handed.{keptOf, sizesOf, interventionAfter, writtenOf, HostRan};
 
 // 0, 10, or the number of a refusal; the index of the rule that had the error, with 10; and how many entries the journal holds.
 #[repr(C)]
@@ -76,6 +75,21 @@ fn unknown(
     kept(n, 256 < markers)
 }
 
+// What the record counts, and how many entries lists of so many numbers have.
+fn sizes_of(h: HostTransaction, ids: usize, entries: usize, journal: usize) -> Sizes
+    ensures { λ r. ⌜ r ≡ sizesOf h ids entries journal ⌝ }
+{
+    Sizes {
+        ranges: h.controls.ranges as usize,
+        targets: h.controls.targets as usize,
+        ids_used: h.ids as usize,
+        entries_used: h.entries as usize,
+        ids,
+        entries: entries / 4,
+        journal: journal / 2,
+    }
+}
+
 // The intervention behind a call: without a visit it is as it came.
 fn intervention_after(
     before: HostIntervention,
@@ -123,20 +137,11 @@ pub fn host_phase(
     entries: &mut [u64],
     journal: &mut [u64],
 ) -> HostHanded
-    ensures { λ r. ⌜ ((ms : List Marker) → markers ≡ unpackedOf ms
-        → HostRan h (callLent phase mode status (now (rules .entry)) (now (actions .entry)) ms (now (text .entry)) (now (outcomes .entry)) (fromHost h) (now (ids .entry)) (now (entries .entry)) (now (journal .entry)))
-        (now (ids .entry)) (now (entries .entry)) (now (journal .entry)) (r .answer) (r .transaction) (now (ids .exit)) (now (entries .exit)) (now (journal .exit))) ⌝ }
+    ensures { λ r. ⌜ HostRan h (callOf phase mode status (now (rules .entry)) (now (actions .entry)) (lentPart markers) (now (text .entry)) (now (outcomes .entry)) (fromHost h) (now (ids .entry)) (now (entries .entry)) (now (journal .entry)))
+        (now (ids .entry)) (now (entries .entry)) (now (journal .entry)) (r .answer) (r .transaction) (now (ids .exit)) (now (entries .exit)) (now (journal .exit)) ⌝ }
 {
     if !records::is_known(h) {
-        let sizes = Sizes {
-            ranges: h.controls.ranges as usize,
-            targets: h.controls.targets as usize,
-            ids_used: h.ids as usize,
-            entries_used: h.entries as usize,
-            ids: ids.len(),
-            entries: entries.len() / 4,
-            journal: journal.len() / 2,
-        };
+        let sizes = sizes_of(h, ids.len(), entries.len(), journal.len());
         let refusal = unknown(
             phase,
             mode,
@@ -158,14 +163,15 @@ pub fn host_phase(
         };
     }
     let t = records::from_host(h);
-    let p = lent::run_unpacked(
+    let p = lent::run_words(
         t,
         phase,
         mode,
         status,
         rules,
         actions,
-        markers,
+        &markers.words,
+        markers.count,
         text,
         outcomes,
         ids,

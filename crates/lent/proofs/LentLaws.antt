@@ -1,6 +1,6 @@
 -- The call on unpacked markers is the call on the records: up to 257 they are the same list, and above that both calls are refused
 -- with the same number. Assumes nothing.
-use Prim.Native.Nat.{ℕ, zero, suc, _+_, _*_, _/_, _<_, _≤_}
+use Prim.Native.Nat.{ℕ, zero, suc, _+_, _-_, _*_, _/_, _<_, _≤_}
 use mathlib.Core.Path.{_≡_, refl, sym, _∙_, ap, subst}
 use mathlib.Core.Bool.{Bool, true, false, cond, _||_}
 use mathlib.Core.List.{List, [], _∷_, _++_}
@@ -77,6 +77,38 @@ few-words n = by (ltb 257 n) refl
     by : (b : Bool) → ltb 257 n ≡ b → cond b 771 (3 * n) ≤ 771
     by true e = omega arith
     by false e = omega (arith, ltb-false 257 n e)
+
+-- the part that is lent lies within the list
+pub within : (n k l : ℕ) → n ≡ cond (ltb l k) l k → n ≤ l
+within n k l = by (ltb l k) refl
+  where
+    by : (b : Bool) → ltb l k ≡ b → n ≡ cond b l k → n ≤ l
+    by true o e = omega arith
+    by false o e = omega (arith, ltb-false l k o)
+
+take-behind : (k : ℕ) (l : List ℕ) → length l ≤ k → take k l ≡ l
+take-behind zero [] h = refl
+take-behind zero (x ∷ l) h = absurd (omega arith)
+take-behind (suc k) [] h = refl
+take-behind (suc k) (x ∷ l) h = ap (λ (z : List ℕ). x ∷ z) (take-behind k l (omega arith))
+
+-- and behind its end there is nothing
+first-part : (k : ℕ) (l : List ℕ) → take (cond (ltb (length l) k) (length l) k) l ≡ take k l
+first-part k l = by (ltb (length l) k) refl
+  where
+    by : (b : Bool) → ltb (length l) k ≡ b → take (cond b (length l) k) l ≡ take k l
+    by true o = take-length l ∙ sym (take-behind k l (omega (arith, ltb-true (length l) k o)))
+    by false o = refl
+
+-- the part from 0 to n is the first k numbers, or all
+pub ran-part : (phase mode status : ℕ) (rules actions words text outcomes : List ℕ) (t : Transaction) (ids entries journal : List ℕ) (n k : ℕ)
+    (r : Phase) (ids′ entries′ journal′ : List ℕ) → n ≡ cond (ltb (length words) k) (length words) k
+    → Ran (callOf phase mode status rules actions (take (n - 0) (drop 0 words)) text outcomes t ids entries journal) t entries journal r ids′ entries′ journal′
+    → Ran (callOf phase mode status rules actions (take k words) text outcomes t ids entries journal) t entries journal r ids′ entries′ journal′
+ran-part phase mode status rules actions words text outcomes t ids entries journal n k r ids′ entries′ journal′ e =
+    let z : n - 0 ≡ cond (ltb (length words) k) (length words) k = omega (arith, e) in
+    subst (λ (ws : List ℕ). Ran (callOf phase mode status rules actions ws text outcomes t ids entries journal) t entries journal r ids′ entries′ journal′)
+    (ap (λ (j : ℕ). take j words) z ∙ first-part k words)
 
 -- CALLS THAT ARE REFUSED
 

@@ -3,10 +3,12 @@ use Prim.Native.Nat.{ℕ, _*_}
 use mathlib.Core.Bool.{cond}
 use mathlib.Core.List.{List}
 use lib.Dec.{ltb}
+use lib.ListN.{take}
 use Rattle.reading.specs.declared.Marker.{Marker}
 use Rattle.reading.specs.Reading.{rust}
 use Rattle.reading.specs.Records.{ruleList, actionList, dataList, journalList}
 use Rattle.reading.specs.Call.{Call}
+use Rattle.markers.specs.declared.Unpacked.{Unpacked}
 use Rattle.phase.specs.declared.Transaction.{Transaction}
 use Rattle.phase.specs.declared.Phase.{Phase}
 use Rattle.phase.specs.Phase.{transactionOf}
@@ -37,3 +39,7 @@ phaseOf a t = record { answer = a .answer; error = a .error; visits = a .visits;
 -- how many numbers of unpacked markers are read: those of the first 257
 abbrev pub lentWords : ℕ → ℕ
 lentWords count = cond (ltb 257 count) 771 (3 * count)
+
+-- those numbers
+abbrev pub lentPart : Unpacked → List ℕ
+lentPart markers = take (lentWords (markers .count)) (markers .words)

@@ -3,11 +3,11 @@ use markers::Unpacked;
 use phase::Transaction;
 use reading::Marker;
 ghost use mathlib.Core.Path.{_≡_};
-ghost use mathlib.Core.List.{List};
-ghost use Rattle.reading.specs.declared.Marker.{Marker as MarkerRecord};
-ghost use Rattle.markers.specs.Unpacked.{unpackedOf};
-ghost use Rattle.phase.specs.Phase.{Ran};
-ghost use Rattle.lent.specs.Lent.{callLent, phaseOf, lentWords};
+ghost use mathlib.Core.Bool.{cond};
+ghost use lib.Dec.{ltb};
+ghost use lib.ListN.{take};
+ghost use Rattle.phase.specs.Phase.{Ran, callOf};
+ghost use Rattle.lent.specs.Lent.{callLent, phaseOf, lentWords, lentPart};
 
 // What a phase call answers, without the transaction: 0, 10, or the number of a refusal; the index of the rule that had the
 // error, with 10; and how many entries the journal holds.
@@ -33,28 +33,38 @@ fn word_count(count: usize) -> usize
     3 * count
 }
 
-// The phase call by value, on unpacked markers. A list of more than 257 markers is cut off there: that is still more than a call
-// takes, and the call answers as for the whole list.
-pub fn run_unpacked(
+// The same, of a list that may be shorter.
+fn part_length(count: usize, length: usize) -> usize
+    ensures { λ r. ⌜ r ≡ cond (ltb length (lentWords count)) length (lentWords count) ⌝ }
+{
+    let n = word_count(count);
+    if length < n {
+        return length;
+    }
+    n
+}
+
+// The phase call by value, on a list of so many markers as numbers, the list cut off behind 257 markers: that is still more than a
+// call takes, and the call answers as for the whole list.
+pub fn run_words(
     t: Transaction,
     phase: u64,
     mode: u64,
     status: u64,
     rules: &[u64],
     actions: &[u64],
-    markers: Unpacked,
+    words: &[u64],
+    count: usize,
     text: &[u8],
     outcomes: &[u8],
     ids: &mut [u64],
     entries: &mut [u64],
     journal: &mut [u64],
 ) -> Handed
-    ensures { λ r. ⌜ ((ms : List MarkerRecord) → markers ≡ unpackedOf ms
-        → Ran (callLent phase mode status (now (rules .entry)) (now (actions .entry)) ms (now (text .entry)) (now (outcomes .entry)) t (now (ids .entry)) (now (entries .entry)) (now (journal .entry)))
-        t (now (entries .entry)) (now (journal .entry)) (phaseOf (r .answer) (r .transaction)) (now (ids .exit)) (now (entries .exit)) (now (journal .exit))) ⌝ }
+    ensures { λ r. ⌜ Ran (callOf phase mode status (now (rules .entry)) (now (actions .entry)) (take (lentWords count) (now (words .entry))) (now (text .entry)) (now (outcomes .entry)) t (now (ids .entry)) (now (entries .entry)) (now (journal .entry)))
+        t (now (entries .entry)) (now (journal .entry)) (phaseOf (r .answer) (r .transaction)) (now (ids .exit)) (now (entries .exit)) (now (journal .exit)) ⌝ }
 {
-    let words = markers.words;
-    let n = word_count(markers.count);
+    let n = part_length(count, words.len());
     let p = transaction::run_phase(
         t,
         phase,
@@ -78,6 +88,41 @@ pub fn run_unpacked(
         },
         transaction,
     }
+}
+
+// The phase call by value, on unpacked markers.
+pub fn run_unpacked(
+    t: Transaction,
+    phase: u64,
+    mode: u64,
+    status: u64,
+    rules: &[u64],
+    actions: &[u64],
+    markers: Unpacked,
+    text: &[u8],
+    outcomes: &[u8],
+    ids: &mut [u64],
+    entries: &mut [u64],
+    journal: &mut [u64],
+) -> Handed
+    ensures { λ r. ⌜ Ran (callOf phase mode status (now (rules .entry)) (now (actions .entry)) (lentPart markers) (now (text .entry)) (now (outcomes .entry)) t (now (ids .entry)) (now (entries .entry)) (now (journal .entry)))
+        t (now (entries .entry)) (now (journal .entry)) (phaseOf (r .answer) (r .transaction)) (now (ids .exit)) (now (entries .exit)) (now (journal .exit)) ⌝ }
+{
+    run_words(
+        t,
+        phase,
+        mode,
+        status,
+        rules,
+        actions,
+        &markers.words,
+        markers.count,
+        text,
+        outcomes,
+        ids,
+        entries,
+        journal,
+    )
 }
 
 // The phase call on what the host lends.
