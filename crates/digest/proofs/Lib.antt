@@ -1,7 +1,3 @@
 -- Laws on plain lists and numbers, for the proofs of the functions and of the crates above.
 pub mod TotalLaws
 pub mod Writing
-pub mod Summing
-pub mod Exceeding
-pub mod Following
-pub mod Refused

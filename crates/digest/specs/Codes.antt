@@ -1,16 +1,13 @@
 -- One small number for each action: what it does to the controls. The text of a ctl action is read once in a call, for this.
-use Prim.Native.Nat.{ℕ, _+_, _-_, min}
+use Prim.Native.Nat.{ℕ, _+_, min}
 use mathlib.Core.Bool.{cond}
 use mathlib.Core.List.{List, map}
-use lib.ListN.{take, drop}
 use lib.Dec.{eqb}
 use Rattle.reading.specs.declared.Action.{Action}
-use Rattle.reading.specs.declared.Rule.{Rule}
 use Rattle.reading.specs.declared.CtlDirective.{CtlDirective}
 use Rattle.reading.specs.declared.RuleEngineMode.{RuleEngineMode}
 use Rattle.reading.specs.declared.BodyAccess.{BodyAccess}
 use Rattle.reading.specs.declared.BodyProcessor.{BodyProcessor}
-use Rattle.reading.specs.Lists.{total}
 use Rattle.reading.specs.Text.{partOf}
 use Rattle.reading.specs.Directive.{directiveOf, withoutLists}
 
@@ -40,14 +37,3 @@ codeAt text a = cond (eqb (a .kind) 19) (codeOf (readIn text a)) 0
 
 abbrev pub codesOf : List ℕ → List Action → List ℕ
 codesOf text actions = map (codeAt text) actions
-
--- how many ranges, and how many targets, the action of a code adds
-abbrev pub rangesCoded : ℕ → ℕ
-rangesCoded code = code - 11
-
-abbrev pub targetsCoded : ℕ → ℕ
-targetsCoded code = cond (eqb code 10) 1 0
-
--- what a rule's actions add together, counted by their codes
-abbrev pub ruleWeight : (ℕ → ℕ) → List ℕ → Rule → ℕ
-ruleWeight weight codes r = total weight (take (r .count) (drop (r .first) codes))

@@ -1,18 +1,15 @@
-// What each action does to the controls, as one small number, and refusals 8 and 9, which count
-// them rule by rule.
+// What each action does to the controls, as one small number. The text of a ctl action is read once in a call, for this.
 use reading::BodyAccess;
 use reading::BodyProcessor;
 use reading::CtlDirective;
 use reading::RuleEngineMode;
 ghost use mathlib.Core.Path.{_≡_};
-ghost use Prim.Native.Nat.{_+_, _<_, _≤_, min};
-ghost use lib.Dec.{ltb};
+ghost use Prim.Native.Nat.{min};
 ghost use lib.ListN.{length, take, getD};
-ghost use Rattle.reading.specs.Lists.{over, total};
-ghost use Rattle.reading.specs.Records.{ruleList, actionList};
+ghost use Rattle.reading.specs.Lists.{over};
+ghost use Rattle.reading.specs.Records.{actionList};
 ghost use Rattle.reading.specs.Walk.{noAction};
-ghost use Rattle.digest.specs.Codes.{codeOf, codeAt, codesOf, rangesCoded, targetsCoded, ruleWeight};
-ghost use Rattle.digest.specs.Weights.{weightBy, Summed, following};
+ghost use Rattle.digest.specs.Codes.{codeOf, codeAt, codesOf};
 
 fn mode_code(mode: RuleEngineMode) -> u16
     ensures { λ r. ⌜ r ≡ codeOf (CtlDirective.RuleEngine mode) ⌝ }
@@ -101,148 +98,4 @@ pub fn digest(actions: &[u64], text: &[u8], codes: &mut [u16])
         codes[i] = code_at(actions, text, i);
         i += 1;
     }
-}
-
-// How many targets, or how many ranges, the action of a code adds.
-fn weight(code: u16, targets: bool) -> u32
-    ensures { λ r. ⌜ (r ≡ weightBy targets code) × (r ≤ 65535) ⌝ }
-{
-    if targets {
-        if code == 10 {
-            return 1;
-        }
-        return 0;
-    }
-    if code < 12 {
-        return 0;
-    }
-    (code - 11) as u32
-}
-
-// Writes, at each index, what so many codes from the first on weigh together.
-fn prefix_sums(codes: &[u16], targets: bool, sums: &mut [u32])
-    requires { ⌜ (length (now codes) < length (now sums)) × (length (now codes) ≤ 4096) ⌝ }
-    ensures { λ _. ⌜ Summed (weightBy targets) (now (codes .entry)) (now (sums .exit)) ⌝ }
-{
-    let mut sum = 0u32;
-    sums[0] = 0;
-    let mut i = 0;
-    while i < codes.len() {
-        sum += weight(codes[i], targets);
-        i += 1;
-        sums[i] = sum;
-    }
-}
-
-// A number of a record, or n where it is greater.
-fn clipped(x: u64, n: usize) -> usize
-    ensures { λ r. ⌜ r ≡ min x n ⌝ }
-{
-    if n as u64 <= x {
-        return n;
-    }
-    x as usize
-}
-
-// A sum as a number of entries.
-fn wide(x: u32) -> usize
-    ensures { λ r. ⌜ r ≡ x ⌝ }
-{
-    x as usize
-}
-
-// What the first 4,096 codes weigh together.
-fn whole_weight(codes: &[u16], targets: bool) -> usize
-    ensures { λ r. ⌜ r ≡ total (weightBy targets) (take 4096 (now (codes .entry))) ⌝ }
-{
-    let n = smaller(4096, codes.len());
-    let mut sum = 0u32;
-    let mut i = 0;
-    while i < n {
-        sum += weight(codes[i], targets);
-        i += 1;
-    }
-    wide(sum)
-}
-
-// Whether the rules' parts of a list of so many actions follow each other: none begins before the end of
-// the one before it.
-fn follow(rules: &[u64], actions: usize) -> bool
-    ensures { λ r. ⌜ r ≡ following actions 0 (ruleList (now (rules .entry))) ⌝ }
-{
-    let count = rules.len() / 5;
-    let mut end = 0;
-    let mut i = 0;
-    while i < count {
-        let first = clipped(rules[5 * i + 3], actions);
-        if first < end {
-            return false;
-        }
-        end = first + clipped(rules[5 * i + 4], actions - first);
-        i += 1;
-    }
-    true
-}
-
-// Whether so many held and those of all rules, counted rule by rule, exceed the limit. What a rule
-// adds is the difference of two sums: one behind its last action and one before its first.
-fn sums_exceed(rules: &[u64], codes: &[u16], targets: bool, held: usize, limit: usize) -> bool
-    ensures { λ r. ⌜ r ≡ ltb limit (held + total (ruleWeight (weightBy targets) (take 4096 (now (codes .entry)))) (ruleList (now (rules .entry)))) ⌝ }
-{
-    if limit < held {
-        return true;
-    }
-    let n = smaller(4096, codes.len());
-    let mut sums = [0u32; 4097];
-    prefix_sums(&codes[..n], targets, &mut sums);
-    let count = rules.len() / 5;
-    let mut left = limit - held;
-    let mut i = 0;
-    while i < count {
-        let from = clipped(rules[5 * i + 3], n);
-        let to = from + clipped(rules[5 * i + 4], n - from);
-        let added = wide(sums[to] - sums[from]);
-        if left < added {
-            return true;
-        }
-        left -= added;
-        i += 1;
-    }
-    false
-}
-
-// The same. In most calls no action adds anything, or the rules' parts of the actions follow each
-// other and then add no more than all actions together: nothing is summed rule by rule.
-fn exceeds(rules: &[u64], codes: &[u16], targets: bool, held: usize, limit: usize) -> bool
-    ensures { λ r. ⌜ r ≡ ltb limit (held + total (ruleWeight (weightBy targets) (take 4096 (now (codes .entry)))) (ruleList (now (rules .entry)))) ⌝ }
-{
-    if limit < held {
-        return true;
-    }
-    let whole = whole_weight(codes, targets);
-    if whole == 0 {
-        return false;
-    }
-    if limit - held < whole {
-        return sums_exceed(rules, codes, targets, held, limit);
-    }
-    if follow(rules, smaller(4096, codes.len())) {
-        return false;
-    }
-    sums_exceed(rules, codes, targets, held, limit)
-}
-
-// Whether so many held ranges and those of all rules, counted rule by rule, exceed 256 (refusal 8).
-// Only the first 4,096 codes count.
-pub fn too_many_ranges(rules: &[u64], codes: &[u16], held: usize) -> bool
-    ensures { λ r. ⌜ r ≡ ltb 256 (held + total (ruleWeight rangesCoded (take 4096 (now (codes .entry)))) (ruleList (now (rules .entry)))) ⌝ }
-{
-    exceeds(rules, codes, false, held, 256)
-}
-
-// The same of targets and 64 (refusal 9).
-pub fn too_many_targets(rules: &[u64], codes: &[u16], held: usize) -> bool
-    ensures { λ r. ⌜ r ≡ ltb 64 (held + total (ruleWeight targetsCoded (take 4096 (now (codes .entry)))) (ruleList (now (rules .entry)))) ⌝ }
-{
-    exceeds(rules, codes, true, held, 64)
 }

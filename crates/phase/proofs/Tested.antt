@@ -18,8 +18,9 @@ use Rattle.text.proofs.RecordLaws.{length-rules}
 use Rattle.text.proofs.RecordLaws.{length-actions}
 use Rattle.control.specs.Held.{controlsOf}
 use Rattle.control.proofs.HeldLaws.{ranges-length, targets-length}
-use Rattle.digest.specs.Codes.{codesOf, rangesCoded, targetsCoded, ruleWeight}
-use Rattle.digest.proofs.Refused.{refused8-first, refused9-first, codes-fit, codes-front}
+use Rattle.digest.specs.Codes.{codesOf}
+use Rattle.limits.specs.Weights.{rangesCoded, targetsCoded, ruleWeight}
+use Rattle.limits.proofs.Refused.{refused8-first, refused9-first, codes-fit, codes-front}
 use Rattle.refusals.specs.declared.Sizes.{Sizes}
 use Rattle.refusals.specs.Lent.{Lent, firstOfSeven}
 use Rattle.phase.specs.declared.Transaction.{Transaction}

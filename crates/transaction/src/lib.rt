@@ -357,10 +357,10 @@ pub fn run_phase(
     let mut codes = [0u16; 4096];
     digest::digest(actions, text, &mut codes[0..]);
     let used = actions.len() / 6;
-    if digest::too_many_ranges(rules, &codes[0..used], ranges) {
+    if limits::too_many_ranges(rules, &codes[0..used], ranges) {
         return as_lent(8, t); // ranges
     }
-    if digest::too_many_targets(rules, &codes[0..used], targets) {
+    if limits::too_many_targets(rules, &codes[0..used], targets) {
         return as_lent(9, t); // targets
     }
     let settings = t.controls.settings;

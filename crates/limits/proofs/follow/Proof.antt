@@ -1,11 +1,11 @@
--- `digest::follow` meets its contract. The invariant: the rules before `i` follow each other, and the last of them ends at `end`.
+-- `limits::follow` meets its contract. The invariant: the rules before `i` follow each other, and the last of them ends at `end`.
 use borrow.Author.Needs.{needs}
 use Prim.Native.Nat.{_-_, _/_}
 use native.Mathlib.Omega.{arith}
 use lib.ListN.{length}
-use Rattle.digest.proofs.Following.{Follows, follows-none, follows-not, follows-more, follows-end}
-use Rattle.digest.proofs.follow.Statement.{statement}
-use Rattle.digest.proofs.follow.Tie as tie
+use Rattle.limits.proofs.Following.{Follows, follows-none, follows-not, follows-more, follows-end}
+use Rattle.limits.proofs.follow.Statement.{statement}
+use Rattle.limits.proofs.follow.Tie as tie
 
 abbrev Inv-loop : tie.InvT-loop
 Inv-loop rules actions count end₀ i₀ end i = Follows actions rules end i

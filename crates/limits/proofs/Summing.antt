@@ -11,9 +11,9 @@ use Rattle.reading.specs.Lists.{total}
 use Rattle.reading.specs.Records.{ruleFrom, ruleList}
 use Rattle.reading.specs.Call.{noRule}
 use Rattle.text.proofs.RecordLaws.{length-rules, rule-is}
-use Rattle.digest.specs.Codes.{ruleWeight}
-use Rattle.digest.specs.Weights.{Summed}
+use Rattle.limits.specs.Weights.{ruleWeight}
+use Rattle.limits.specs.Weights.{Summed}
 use Rattle.digest.proofs.TotalLaws.{total-more, total-between}
 
 -- the sums up to index i of a list that was `found`; `sum` is the last of them
 pub record Sofar (w : ℕ → ℕ) (codes found sums : List ℕ) (sum i : ℕ) : Type 0 where

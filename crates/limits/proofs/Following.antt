@@ -13,9 +13,9 @@ use Rattle.reading.specs.Lists.{total}
 use Rattle.reading.specs.Records.{ruleFrom, ruleList}
 use Rattle.text.proofs.RecordLaws.{drop-rules, rules-end}
 use Rattle.text.proofs.Slices.{front-length}
-use Rattle.digest.specs.Codes.{ruleWeight}
-use Rattle.digest.specs.Weights.{beginOf, endOf, following}
+use Rattle.limits.specs.Weights.{ruleWeight}
+use Rattle.limits.specs.Weights.{beginOf, endOf, following}
 use Rattle.digest.proofs.TotalLaws.{clip-take, total-take-le, total-take-mono, total-between}
 
 -- a rule that begins before an end, and one that does not
 module _ (n end : ℕ) (r : Rule) (rs : List Rule) where

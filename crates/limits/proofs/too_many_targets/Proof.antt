@@ -1,7 +1,7 @@
--- `digest::too_many_targets` meets its contract.
+-- `limits::too_many_targets` meets its contract.
 use borrow.Author.Needs.{needs}
-use Rattle.digest.proofs.too_many_targets.Statement.{statement}
-use Rattle.digest.proofs.too_many_targets.Tie as tie
+use Rattle.limits.proofs.too_many_targets.Statement.{statement}
+use Rattle.limits.proofs.too_many_targets.Tie as tie
 
 exceeds-requires : tie.Need-exceeds-requires
 exceeds-requires c κs = search needs

@@ -1,13 +1,23 @@
--- What `exceeds` counts, and the sums that it reads.
+-- What refusals 8 and 9 count by the codes of crate digest, and the sums that they read.
 use Prim.Native.Nat.{ℕ, _+_, _-_, _≤_, _<_, min}
 use mathlib.Core.Path.{_≡_}
 use mathlib.Core.Bool.{Bool, true, false, cond}
 use mathlib.Core.List.{List, [], _∷_}
-use lib.Dec.{ltb}
-use lib.ListN.{length, take, getD}
+use lib.Dec.{eqb, ltb}
+use lib.ListN.{length, take, drop, getD}
 use Rattle.reading.specs.declared.Rule.{Rule}
 use Rattle.reading.specs.Lists.{total}
-use Rattle.digest.specs.Codes.{rangesCoded, targetsCoded}
+
+-- how many ranges, and how many targets, the action of a code adds
+abbrev pub rangesCoded : ℕ → ℕ
+rangesCoded code = code - 11
+
+abbrev pub targetsCoded : ℕ → ℕ
+targetsCoded code = cond (eqb code 10) 1 0
+
+-- what a rule's actions add together, counted by their codes
+abbrev pub ruleWeight : (ℕ → ℕ) → List ℕ → Rule → ℕ
+ruleWeight weight codes r = total weight (take (r .count) (drop (r .first) codes))
 
 -- what one code weighs: its targets, or its ranges
 abbrev pub weightBy : Bool → ℕ → ℕ

@@ -21,8 +21,9 @@ use Rattle.reading.specs.Directive.{directiveOf, withoutLists, rangeCount, targ
 use Rattle.reading.specs.Actions.{Placed, placedFrom, actionsOf, controlsIn, directiveIn}
 use Rattle.reading.specs.Call.{Call}
 use Rattle.reading.specs.Refusals.{ruleTotal, refused8, refused9}
-use Rattle.digest.specs.Codes.{codeOf, codeAt, codesOf, rangesCoded, targetsCoded, ruleWeight}
+use Rattle.digest.specs.Codes.{codeOf, codeAt, codesOf}
+use Rattle.limits.specs.Weights.{rangesCoded, targetsCoded, ruleWeight}
 use Rattle.digest.proofs.TotalLaws.{take-map, drop-map, total-map, total-part-le, total-drop-le}
 
 -- what an action adds: so much by its directive if it is a ctl action, else nothing
 abbrev added : (Directive → ℕ) → List ℕ → Action → ℕ

@@ -11,10 +11,10 @@ use lib.Seq.{take-all}
 use Rattle.reading.specs.declared.Rule.{Rule}
 use Rattle.reading.specs.Lists.{total}
 use Rattle.reading.specs.Records.{ruleList}
-use Rattle.digest.specs.Codes.{ruleWeight}
+use Rattle.limits.specs.Weights.{ruleWeight}
 use Rattle.digest.proofs.TotalLaws.{clip-take, total-more, total-take-le, total-none, total-part-le}
 use Rattle.text.proofs.RecordLaws.{length-rules}
-use Rattle.digest.proofs.Summing.{rules-more}
+use Rattle.limits.proofs.Summing.{rules-more}
 
 -- what is held, what the rules up to index i add, and what is left make the limit
 pub record Left (w : ℕ → ℕ) (codes rules : List ℕ) (held limit left i : ℕ) : Type 0 where

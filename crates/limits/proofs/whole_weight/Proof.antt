@@ -1,12 +1,12 @@
--- `digest::whole_weight` meets its contract. The invariant: `sum` is what the codes before `i` weigh.
+-- `limits::whole_weight` meets its contract. The invariant: `sum` is what the codes before `i` weigh.
 use borrow.Author.Needs.{needs}
 use Prim.Native.Nat.{_-_}
 use mathlib.Core.Path.{_∙_}
 use native.Mathlib.Omega.{arith}
-use Rattle.digest.specs.Weights.{weightBy}
-use Rattle.digest.proofs.Exceeding.{Whole, whole-none, whole-more, whole-end}
-use Rattle.digest.proofs.whole_weight.Statement.{statement}
-use Rattle.digest.proofs.whole_weight.Tie as tie
+use Rattle.limits.specs.Weights.{weightBy}
+use Rattle.limits.proofs.Exceeding.{Whole, whole-none, whole-more, whole-end}
+use Rattle.limits.proofs.whole_weight.Statement.{statement}
+use Rattle.limits.proofs.whole_weight.Tie as tie
 
 abbrev Inv-loop : tie.InvT-loop
 Inv-loop codes targets n sum₀ i₀ sum i = Whole (weightBy targets) codes n sum i
@@ -14,23 +14,23 @@ Inv-loop codes targets n sum₀ i₀ sum i = Whole (weightBy targets) codes n su
 abbrev μ-loop : tie.MeasureT-loop
 μ-loop codes targets n sum₀ i₀ sum i = n - i
 
-smaller-requires : tie.Need-smaller-requires Inv-loop μ-loop
-smaller-requires c κs = search needs
+counted-requires : tie.Need-counted-requires Inv-loop μ-loop
+counted-requires c κs = search needs
 
 loop-holds : tie.Need-loop-holds Inv-loop μ-loop
-loop-holds c = whole-none _ _ _ (c .smaller .ensures)
+loop-holds c = whole-none _ _ _ (c .counted .ensures)
 
 mul-weight : tie.Need-mul-weight Inv-loop μ-loop
 mul-weight c = omega arith
 
 shared-slice-read-weight : tie.Need-shared-slice-read-weight Inv-loop μ-loop
-shared-slice-read-weight c = omega (arith, (c .before .before .before) .smaller .ensures)
+shared-slice-read-weight c = omega (arith, (c .before .before .before) .counted .ensures)
 
 weight-requires : tie.Need-weight-requires Inv-loop μ-loop
 weight-requires c κs = search needs
 
 add-sum : tie.Need-add-sum Inv-loop μ-loop
-add-sum c = omega (arith, (c .before .before .before) .loop .inv .small, (c .before .before .before .before) .smaller .ensures, c .weight .ensures .1)
+add-sum c = omega (arith, (c .before .before .before) .loop .inv .small, (c .before .before .before .before) .counted .ensures, c .weight .ensures .1)
 
 add-i : tie.Need-add-i Inv-loop μ-loop
 add-i c = omega arith
@@ -40,7 +40,7 @@ loop-less c = omega arith
 
 loop-again : tie.Need-loop-again Inv-loop μ-loop
 loop-again c =
-    whole-more _ _ _ ((c .before .before .before .before) .smaller .ensures) _ ((c .before .before .before) .loop .i) ((c .before .before .before) .loop .inv) (omega arith) _
+    whole-more _ _ _ ((c .before .before .before .before) .counted .ensures) _ ((c .before .before .before) .loop .i) ((c .before .before .before) .loop .inv) (omega arith) _
     (c .weight .ensures .0) (c .weight .ensures .1)
 
 wide-requires : tie.Need-wide-requires Inv-loop μ-loop
@@ -49,7 +49,7 @@ wide-requires c κs = search needs
 returns : tie.Need-returns Inv-loop μ-loop
 returns c =
     c .wide .ensures
-    ∙ whole-end _ _ _ ((c .before .before .before) .smaller .ensures) _ ((c .before .before) .loop .i) ((c .before .before) .loop .inv) (omega arith)
+    ∙ whole-end _ _ _ ((c .before .before .before) .counted .ensures) _ ((c .before .before) .loop .i) ((c .before .before) .loop .inv) (omega arith)
 
 pub whole-weight-spec : {M : Type 1} → statement M
 whole-weight-spec =
@@ -57,7 +57,7 @@ whole-weight-spec =
     (tie.spec
     Inv-loop
     μ-loop
-    smaller-requires
+    counted-requires
     loop-holds
     mul-weight
     shared-slice-read-weight

@@ -1,13 +1,13 @@
--- `digest::exceeds` meets its contract.
+-- `limits::exceeds` meets its contract.
 use borrow.Author.Needs.{needs}
 use mathlib.Core.Path.{sym, _∙_}
 use native.Mathlib.Omega.{arith}
 use denote.Ref.{now}
-use Rattle.digest.specs.Weights.{weightBy}
-use Rattle.digest.proofs.Exceeding.{none-adds, over-held}
-use Rattle.digest.proofs.Following.{follow-fits}
-use Rattle.digest.proofs.exceeds.Statement.{statement}
-use Rattle.digest.proofs.exceeds.Tie as tie
+use Rattle.limits.specs.Weights.{weightBy}
+use Rattle.limits.proofs.Exceeding.{none-adds, over-held}
+use Rattle.limits.proofs.Following.{follow-fits}
+use Rattle.limits.proofs.exceeds.Statement.{statement}
+use Rattle.limits.proofs.exceeds.Tie as tie
 
 returns : tie.Need-returns
 returns c =
@@ -29,8 +29,8 @@ sums-exceed-requires c κs = search needs
 returns-3 : tie.Need-returns-3
 returns-3 c = search needs
 
-smaller-requires : tie.Need-smaller-requires
-smaller-requires c κs = search needs
+counted-requires : tie.Need-counted-requires
+counted-requires c κs = search needs
 
 follow-requires : tie.Need-follow-requires
 follow-requires c κs = search needs
@@ -39,7 +39,7 @@ returns-4 : tie.Need-returns-4
 returns-4 c =
     let a = (c .before .before .before .before .before .before .before .before .before) .args in
     follow-fits (weightBy (a .targets)) (now (a .codes)) (now (a .rules)) (a .held) (a .limit) ((c .before .before .before .before .before .before) .if1 .left) _
-    ((c .before .before) .smaller .ensures) (sym ((c .before) .follow .ensures) ∙ c .if4 .taken)
+    ((c .before .before) .counted .ensures) (sym ((c .before) .follow .ensures) ∙ c .if4 .taken)
     (omega (arith, (c .before .before .before .before .before) .whole-weight .ensures, (c .before .before .before) .if3 .left))
 
 sums-exceed-requires-2 : tie.Need-sums-exceed-requires-2
@@ -57,7 +57,7 @@ exceeds-spec =
     returns-2
     sums-exceed-requires
     returns-3
-    smaller-requires
+    counted-requires
     follow-requires
     returns-4
     sums-exceed-requires-2

@@ -1,9 +1,9 @@
--- `digest::weight` meets its contract.
+-- `limits::weight` meets its contract.
 use borrow.Author.Needs.{needs}
 use native.Mathlib.Omega.{arith}
 use borrow.Author.Tests.{eq-eqb, ne-eqb}
-use Rattle.digest.proofs.weight.Statement.{statement}
-use Rattle.digest.proofs.weight.Tie as tie
+use Rattle.limits.proofs.weight.Statement.{statement}
+use Rattle.limits.proofs.weight.Tie as tie
 
 returns : tie.Need-returns
 returns c = (rw (c .before .if1 .taken, eq-eqb _ 10 (c .if2 .taken)), omega arith)

@@ -1,14 +1,14 @@
--- `digest::prefix_sums` meets its contract. The invariant: the sums up to index `i` are written.
+-- `limits::prefix_sums` meets its contract. The invariant: the sums up to index `i` are written.
 use borrow.Author.Needs.{needs}
 use Prim.Native.Nat.{_-_, _<_}
 use mathlib.Core.Path.{_∙_}
 use native.Mathlib.Omega.{arith}
 use lib.ListN.{length, set, length-set}
 use lib.Seq.{getD-set-same, lt-length-set}
-use Rattle.digest.specs.Weights.{weightBy}
-use Rattle.digest.proofs.Summing.{Sofar, sofar-none, sofar-more, sofar-end}
-use Rattle.digest.proofs.prefix_sums.Statement.{statement}
-use Rattle.digest.proofs.prefix_sums.Tie as tie
+use Rattle.limits.specs.Weights.{weightBy}
+use Rattle.limits.proofs.Summing.{Sofar, sofar-none, sofar-more, sofar-end}
+use Rattle.limits.proofs.prefix_sums.Statement.{statement}
+use Rattle.limits.proofs.prefix_sums.Tie as tie
 
 abbrev Inv-loop : tie.InvT-loop
 Inv-loop codes targets sums₀ sum₀ i₀ sums sum i = Sofar (weightBy targets) codes sums₀ sums sum i

@@ -1,4 +1,4 @@
--- `digest::sums_exceed` meets its contract. The invariant: what is held, what the rules up to `i` add, and what is left make the limit.
+-- `limits::sums_exceed` meets its contract. The invariant: what is held, what the rules up to `i` add, and what is left make the limit.
 use borrow.Author.Needs.{needs}
 use Prim.Native.Nat.{ℕ, _+_, _-_, _*_, _/_}
 use mathlib.Core.Path.{_≡_, sym, _∙_}
@@ -7,11 +7,11 @@ use mathlib.Core.List.{List}
 use lib.ListN.{length, take, drop, getD}
 use Rattle.reading.specs.Lists.{total}
 use Rattle.text.proofs.Slices.{front-length}
-use Rattle.digest.specs.Weights.{weightBy}
-use Rattle.digest.proofs.Summing.{part-is}
-use Rattle.digest.proofs.Exceeding.{Left, over-held, left-none, left-over, left-more, left-end}
-use Rattle.digest.proofs.sums_exceed.Statement.{statement}
-use Rattle.digest.proofs.sums_exceed.Tie as tie
+use Rattle.limits.specs.Weights.{weightBy}
+use Rattle.limits.proofs.Summing.{part-is}
+use Rattle.limits.proofs.Exceeding.{Left, over-held, left-none, left-over, left-more, left-end}
+use Rattle.limits.proofs.sums_exceed.Statement.{statement}
+use Rattle.limits.proofs.sums_exceed.Tie as tie
 
 abbrev Inv-loop : tie.InvT-loop
 Inv-loop rules codes targets held limit n sums count left₀ i₀ left i =
@@ -21,23 +21,23 @@ abbrev μ-loop : tie.MeasureT-loop
 μ-loop rules codes targets held limit n sums count left₀ i₀ left i = length rules / 5 - i
 
 -- the codes as lent, how many of them count, those that count, and the weight
-abbrev codes : tie.After-smaller Inv-loop μ-loop → List ℕ
+abbrev codes : tie.After-counted Inv-loop μ-loop → List ℕ
 codes s = s .before .before .before .before .args .codes .now
 
-abbrev number : tie.After-smaller Inv-loop μ-loop → ℕ
-number s = s .smaller .result
+abbrev number : tie.After-counted Inv-loop μ-loop → ℕ
+number s = s .counted .result
 
-abbrev counted : tie.After-smaller Inv-loop μ-loop → List ℕ
+abbrev counted : tie.After-counted Inv-loop μ-loop → List ℕ
 counted s = take (number s) (codes s)
 
-abbrev weight : tie.After-smaller Inv-loop μ-loop → ℕ → ℕ
+abbrev weight : tie.After-counted Inv-loop μ-loop → ℕ → ℕ
 weight s = weightBy (s .before .before .before .before .args .targets)
 
-number-is : (s : tie.After-smaller Inv-loop μ-loop) → number s ≡ length (counted s)
-number-is s = front-length (codes s) (number s) (omega (arith, s .smaller .ensures))
+number-is : (s : tie.After-counted Inv-loop μ-loop) → number s ≡ length (counted s)
+number-is s = front-length (codes s) (number s) (omega (arith, s .counted .ensures))
 
 -- an earlier place, seen from where the sums are written, from the loop and from a turn
-abbrev from-sums : tie.After-prefix-sums Inv-loop μ-loop → tie.After-smaller Inv-loop μ-loop
+abbrev from-sums : tie.After-prefix-sums Inv-loop μ-loop → tie.After-counted Inv-loop μ-loop
 from-sums p = p .before .before .before
 
 abbrev from-loop : tie.At-loop Inv-loop μ-loop → tie.After-prefix-sums Inv-loop μ-loop
@@ -76,8 +76,8 @@ returns c =
     let a = c .before .before .before .args in
     over-held (weightBy (a .targets)) (a .codes .now) (a .rules .now) (a .held) (a .limit) (c .if1 .taken)
 
-smaller-requires : tie.Need-smaller-requires Inv-loop μ-loop
-smaller-requires c κs = search needs
+counted-requires : tie.Need-counted-requires Inv-loop μ-loop
+counted-requires c κs = search needs
 
 slice-aggregate-prefix-sums : tie.Need-slice-aggregate-prefix-sums Inv-loop μ-loop
 slice-aggregate-prefix-sums c = number-is (c .before)
@@ -88,12 +88,12 @@ slice-aggregate-prefix-sums-2 c = omega arith
 prefix-sums-requires : tie.Need-prefix-sums-requires Inv-loop μ-loop
 prefix-sums-requires c κs =
     let s = c .before .before in
-    (omega (arith, number-is s, s .smaller .ensures), omega (arith, number-is s, s .smaller .ensures))
+    (omega (arith, number-is s, s .counted .ensures), omega (arith, number-is s, s .counted .ensures))
 
 loop-holds : tie.Need-loop-holds Inv-loop μ-loop
 loop-holds c =
     let s = from-sums (c .before) in
-    left-none _ _ _ _ _ _ (s .smaller .ensures) (s .before .if1 .left)
+    left-none _ _ _ _ _ _ (s .counted .ensures) (s .before .if1 .left)
 
 mul-clipped : tie.Need-mul-clipped Inv-loop μ-loop
 mul-clipped c = omega arith
@@ -154,7 +154,7 @@ returns-2 c =
     let t = c .before .before in
     let l = from-turn t in
     let s = from-sums (from-loop l) in
-    left-over _ _ _ _ _ _ (s .smaller .ensures) _ (l .loop .i) (l .loop .inv) (omega arith)
+    left-over _ _ _ _ _ _ (s .counted .ensures) _ (l .loop .i) (l .loop .inv) (omega arith)
     (omega (arith, adds-is t, c .before .wide .ensures, c .if2 .taken))
 
 add-i : tie.Need-add-i Inv-loop μ-loop
@@ -168,14 +168,14 @@ loop-again c =
     let t = c .before .before in
     let l = from-turn t in
     let s = from-sums (from-loop l) in
-    left-more _ _ _ _ _ _ (s .smaller .ensures) _ (l .loop .i) (l .loop .inv) (omega arith) _
+    left-more _ _ _ _ _ _ (s .counted .ensures) _ (l .loop .i) (l .loop .inv) (omega arith) _
     (omega (arith, adds-is t, c .before .wide .ensures)) (c .if2 .left)
 
 returns-3 : tie.Need-returns-3 Inv-loop μ-loop
 returns-3 c =
     let l = c .before in
     let s = from-sums (from-loop l) in
-    left-end _ _ _ _ _ _ (s .smaller .ensures) _ (l .loop .i) (l .loop .inv) (omega arith)
+    left-end _ _ _ _ _ _ (s .counted .ensures) _ (l .loop .i) (l .loop .inv) (omega arith)
 
 pub sums-exceed-spec : {M : Type 1} → statement M
 sums-exceed-spec =
@@ -184,7 +184,7 @@ sums-exceed-spec =
     Inv-loop
     μ-loop
     returns
-    smaller-requires
+    counted-requires
     slice-aggregate-prefix-sums
     slice-aggregate-prefix-sums-2
     prefix-sums-requires
