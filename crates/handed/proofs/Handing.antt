@@ -32,9 +32,9 @@ use Rattle.numbered.specs.Controls.{controlsFromHost, controlsToHost}
 use Rattle.records.specs.Whole.{known, fromHost, toHost}
 use Rattle.numbered.specs.Parts.{flagNumber}
 use Rattle.records.proofs.Back.{back, forth}
-use Rattle.lent.specs.declared.Answer.{Answer}
-use Rattle.lent.specs.Lent.{callLent, phaseOf, lentWords, lentPart}
-use Rattle.lent.proofs.LentLaws.{few-words, ran-lent}
+use Rattle.words.specs.declared.Answer.{Answer}
+use Rattle.words.specs.Lent.{callLent, phaseOf, lentWords, lentPart}
+use Rattle.words.proofs.LentLaws.{few-words, ran-lent}
 use Rattle.handed.specs.declared.HostAnswer.{HostAnswer}
 use Rattle.handed.specs.Handed.{phaseFound, unknownAnswer, TurnedAway, HostRan, keptOf, sizesOf, interventionAfter, writtenOf}
 

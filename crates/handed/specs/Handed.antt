@@ -17,7 +17,7 @@ use Rattle.numbered.specs.Parts.{flagNumber}
 use Rattle.records.specs.Parts.{hostIntervention}
 use Rattle.numbered.specs.Controls.{controlsToHost}
 use Rattle.records.specs.Whole.{known, fromHost, toHost}
-use Rattle.lent.specs.Lent.{phaseOf}
+use Rattle.words.specs.Lent.{phaseOf}
 use Rattle.handed.specs.declared.HostAnswer.{HostAnswer}
 
 -- the answer and the transaction that are found after the call

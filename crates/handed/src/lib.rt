@@ -12,7 +12,7 @@ ghost use Rattle.reading.specs.Call.{Call};
 ghost use Rattle.refusals.specs.Lent.{Lent, firstOfSeven};
 ghost use Rattle.phase.specs.Phase.{callOf};
 ghost use Rattle.records.specs.Whole.{fromHost};
-ghost use Rattle.lent.specs.Lent.{lentPart};
+ghost use Rattle.words.specs.Lent.{lentPart};
 ghost use Rattle.handed.specs.Handed.{keptOf, sizesOf, interventionAfter, writtenOf, HostRan};
 
 // 0, 10, or the number of a refusal; the index of the rule that had the error, with 10; and how many entries the journal holds.
@@ -163,7 +163,7 @@ pub fn host_phase(
         };
     }
     let t = records::from_host(h);
-    let p = lent::run_words(
+    let p = words::run_words(
         t,
         phase,
         mode,

@@ -20,7 +20,7 @@ ghost use Rattle.reading.specs.Controls.{withRange, withTarget, addRangeAnswer,
 ghost use Rattle.records.specs.Whole.{fromHost};
 ghost use Rattle.asked.specs.Asked.{controlsIn, hostMode, hostRemoved, hostTargetCount, hostTarget, hostAccess, hostProcessor};
 ghost use Rattle.added.specs.Added.{HostAdded};
-ghost use Rattle.lent.specs.Lent.{callLent};
+ghost use Rattle.words.specs.Lent.{callLent};
 ghost use Rattle.handed.specs.Handed.{HostRan};
 ghost use Rattle.host.specs.Record.{Recorded};
 

@@ -10,7 +10,7 @@ use borrow.Author.Needs.{needs}
 use borrow.Author.Tests.{not-true, not-false}
 use Rattle.reading.specs.Records.{markerList}
 use Rattle.phase.specs.Phase.{callOf}
-use Rattle.lent.specs.Lent.{lentPart}
+use Rattle.words.specs.Lent.{lentPart}
 use Rattle.handed.proofs.Handing.{turned, many-lent, handed}
 use Rattle.handed.proofs.host_phase.Statement.{statement}
 use Rattle.handed.proofs.host_phase.Tie as tie

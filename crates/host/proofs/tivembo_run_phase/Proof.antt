@@ -45,7 +45,7 @@ use denote.Signature.{plain, shrSliceOf}
 use Rattle.markers.specs.Unpacked.{unpackedOf}
 use Rattle.records.specs.Whole.{fromHost}
 use Rattle.phase.specs.Phase.{callOf}
-use Rattle.lent.specs.Lent.{lentPart}
+use Rattle.words.specs.Lent.{lentPart}
 use Rattle.handed.specs.Handed.{HostRan}
 use Rattle.handed.proofs.Handing.{host-lent}
 use Rattle.records.specs.declared.HostTransaction.{HostTransaction}

@@ -44,16 +44,16 @@ use denote.Exit.{yes}
 use denote.Signature.{plain, shrSliceOf}
 use Rattle.markers.specs.Unpacked.{unpackedOf}
 use Rattle.phase.specs.Phase.{Ran, callOf}
-use Rattle.lent.specs.Lent.{phaseOf, lentPart}
-use Rattle.lent.proofs.LentLaws.{ran-lent}
+use Rattle.words.specs.Lent.{phaseOf, lentPart}
+use Rattle.words.proofs.LentLaws.{ran-lent}
 use Rattle.phase.specs.declared.Transaction.{Transaction}
-use Rattle.lent.specs.declared.Handed.{Handed}
+use Rattle.words.specs.declared.Handed.{Handed}
 use Rattle.phase.proofs.Transaction as T
 use Rattle.phase.proofs.Transaction.Laws as T′
-use Rattle.lent.proofs.Handed as P
-use Rattle.lent.proofs.Handed.Laws as P′
-use Rattle.lent.proofs.Answer as Q
-use Rattle.lent.proofs.Answer.Laws as Q′
+use Rattle.words.proofs.Handed as P
+use Rattle.words.proofs.Handed.Laws as P′
+use Rattle.words.proofs.Answer as Q
+use Rattle.words.proofs.Answer.Laws as Q′
 use Rattle.reading.specs.declared.Marker.{Marker}
 use Rattle.markers.specs.declared.Unpacked.{Unpacked}
 use Rattle.reading.proofs.Marker as R-Marker

@@ -23,7 +23,7 @@ use Rattle.markers.specs.Unpacked.{markerWords, wordsOf}
 use Rattle.phase.specs.declared.Transaction.{Transaction}
 use Rattle.phase.specs.declared.Phase.{Phase}
 use Rattle.phase.specs.Phase.{Ran, outcomeFound, callOf}
-use Rattle.lent.specs.Lent.{callLent, lentWords}
+use Rattle.words.specs.Lent.{callLent, lentWords}
 
 -- THE NUMBERS OF MARKERS
 

@@ -1,4 +1,4 @@
--- `lent::part_length` meets its contract. Assumes nothing.
+-- `words::part_length` meets its contract. Assumes nothing.
 use Prim.Native.Nat.{ℕ, _<_, _≤_}
 use mathlib.Core.Path.{_≡_, subst}
 use mathlib.Core.Bool.{cond}
@@ -6,8 +6,8 @@ use native.Mathlib.Omega.{arith}
 use borrow.Author.Tests.{lt-ltb, le-ltb}
 use lib.Dec.{ltb}
 use borrow.Author.Needs.{needs}
-use Rattle.lent.proofs.part_length.Statement.{statement}
-use Rattle.lent.proofs.part_length.Tie as tie
+use Rattle.words.proofs.part_length.Statement.{statement}
+use Rattle.words.proofs.part_length.Tie as tie
 
 shorter : (n k l : ℕ) → n ≡ k → l < n → l ≡ cond (ltb l k) l k
 shorter n k l e h = rw (lt-ltb l k (omega (arith, e, h)))

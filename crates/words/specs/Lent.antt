@@ -12,7 +12,7 @@ use Rattle.markers.specs.declared.Unpacked.{Unpacked}
 use Rattle.phase.specs.declared.Transaction.{Transaction}
 use Rattle.phase.specs.declared.Phase.{Phase}
 use Rattle.phase.specs.Phase.{transactionOf}
-use Rattle.lent.specs.declared.Answer.{Answer}
+use Rattle.words.specs.declared.Answer.{Answer}
 
 -- 01: "Markers are lent as a list of marker records". The call, in the Rust's reading
 abbrev pub callLent : ℕ → ℕ → ℕ → List ℕ → List ℕ → List Marker → List ℕ → List ℕ → Transaction → List ℕ → List ℕ → List ℕ → Call

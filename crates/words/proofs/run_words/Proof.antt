@@ -1,10 +1,10 @@
--- `lent::run_words` meets its contract: what it lends on are the numbers of the first markers, as far as the list goes. Assumes nothing.
+-- `words::run_words` meets its contract: what it lends on are the numbers of the first markers, as far as the list goes. Assumes nothing.
 use lib.ListN.{length}
 use denote.Ref.{now}
-use Rattle.lent.proofs.LentLaws.{within, ran-part}
+use Rattle.words.proofs.LentLaws.{within, ran-part}
 use borrow.Author.Needs.{needs}
-use Rattle.lent.proofs.run_words.Statement.{statement}
-use Rattle.lent.proofs.run_words.Tie as tie
+use Rattle.words.proofs.run_words.Statement.{statement}
+use Rattle.words.proofs.run_words.Tie as tie
 
 -- earlier places
 abbrev begun : tie.After-part-length → tie.Start
