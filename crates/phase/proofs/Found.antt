@@ -6,11 +6,12 @@ use mathlib.Core.List.{List, [], _∷_, _++_, append-assoc, append-nil}
 use native.Mathlib.Omega.{arith}
 use native.Mathlib.Numerals.{add-one}
 use borrow.Author.Tests.{lt-ltb}
-use lib.Dec.{eqb}
+use lib.Dec.{eqb, ltb}
 use lib.ListN.{length, drop, getD, drop-of-length-le, length-append}
 use lib.Seq.{drop-append-le}
 use Rattle.reading.specs.declared.Verdict.{Verdict}
 use Rattle.reading.specs.declared.JournalEntry.{JournalEntry}
+use Rattle.reading.specs.declared.Rule.{Rule}
 use Rattle.reading.specs.declared.RuleEngineMode.{RuleEngineMode}
 use Rattle.reading.specs.declared.DisruptiveOutcome.{DisruptiveOutcome}
 use Rattle.reading.specs.Lists.{keep, gather}
@@ -20,13 +21,13 @@ use Rattle.reading.specs.Reading.{rust}
 use Rattle.reading.specs.Controls.{Controls, isRemoved, rangeList, modeOr}
 use Rattle.reading.specs.Call.{Call, ruleCount, ruleAt, idAt, outcomeAt, recordId, isLink, noRule, modeUnder}
 use Rattle.reading.specs.Units.{unitControls, unitFlow, unitDisruptive}
-use Rattle.reading.specs.Walk.{State, Visit, visitBy, visitAt, verdictAt, verdictBy, afterChain, afterFlow, entryOf}
+use Rattle.reading.specs.Walk.{State, Visit, visitBy, visitAt, verdictAt, verdictBy, afterChain, afterFlow, entryOf, chainRest}
 use Rattle.control.specs.declared.Controls as held
 use Rattle.control.specs.Held.{controlsOf}
 use Rattle.members.proofs.MatchedLaws.{matched-append}
 use Rattle.visit.specs.declared.Visited.{Visited}
 use Rattle.visit.specs.declared.State as code
-use Rattle.visit.specs.Found.{entryBy, foundBy, foundAt}
+use Rattle.visit.specs.Found.{entryBy, passed, foundBy, foundAt}
 use Rattle.phase.proofs.Turns.{true-false}
 
 false-true : false ≡ true → ⊥
@@ -39,6 +40,31 @@ pub found-law : (q : Call) (c : held.Controls) (i : ℕ) (found : Verdict) → c
     → found ≡ verdictAt q (controlsOf c) i
 unfolding verdictAt idAt ruleAt outcomeAt controlsOf
 found-law q c i found h e = let z : min (c .ranges) 256 ≡ c .ranges = omega arith in rw z at e
+
+-- a visit has what was found in it
+found-by : (behind rest : ℕ) (chained : Bool) (first : ℕ) (found : Verdict) (link : Bool)
+    → foundBy behind rest chained first found link .verdict ≡ found
+found-by behind rest chained first Verdict.Missed link = refl
+found-by behind rest chained first Verdict.Matched true = refl
+found-by behind rest chained first Verdict.Matched false = refl
+found-by behind rest chained first Verdict.Removed true = refl
+found-by behind rest chained first Verdict.Removed false = refl
+found-by behind rest chained first Verdict.Error link = refl
+
+pub visit-verdict : (rules : List Rule) (s : code.State) (visits : ℕ) (found : Verdict) (w : Visited)
+    → w ≡ foundAt rules s visits found → w .verdict ≡ found
+unfolding foundAt
+visit-verdict rules s visits found w e = rw e (go (ltb (s .next) (length rules)))
+  where
+    go : (inside : Bool) → cond inside
+        (foundBy (s .next + 1) (s .next + chainRest (drop (s .next) rules)) (s .chained) (entryBy s visits) found
+        (eqb (getD rules (s .next) noRule .link) 1)) (passed found (s .next) (s .chained) (entryBy s visits)) .verdict ≡ found
+    go true = found-by _ _ _ _ found _
+    go false = refl
+
+pub visit-by-verdict : (rules : List Rule) (s : code.State) (visits : ℕ) (found : Verdict) (w : Visited)
+    → w ≡ foundAt rules s visits found → w ≡ foundAt rules s visits (w .verdict)
+visit-by-verdict rules s visits found w e = e ∙ ap (foundAt rules s visits) (sym (visit-verdict rules s visits found w e))
 
 -- the mode under the controls of a struct
 pub mode-law : (q : Call) (c : held.Controls) (m now : RuleEngineMode) → m ≡ modeNumbered (q .mode) → now ≡ modeOr m

@@ -6,6 +6,7 @@ use native.Mathlib.Omega.{arith}
 use lib.ListN.{length, take, drop, set, length-append, length-drop, length-take, drop-of-length-le}
 use lib.Seq.{take-at, drop-at, drop-drop, take-all}
 use Rattle.reading.specs.Lists.{over}
+use Rattle.reading.specs.Outcome.{atFreeEnd}
 
 -- a list l whose first k entries are replaced by `a`, of that length, as a callee is lent it from k on
 module _ (a l : List ℕ) (k : ℕ) (is : length a ≡ k) (inside : k ≤ length l) where
@@ -54,3 +55,20 @@ module _ (a l j : List ℕ) (k : ℕ) (j-is : j ≡ a ++ drop k l) (is : length 
   pub put-in : (vs last : List ℕ) → last ≡ over (take (length j - k) (drop k j)) vs
       → take k j ++ (last ++ drop (length j - k) (drop k j)) ≡ (a ++ vs) ++ drop (k + length vs) l
   put-in vs last e = rw j-is (put-part a l k is inside vs last (rw j-is at e))
+
+  pub put-free : (vs : List ℕ) → atFreeEnd k j vs ≡ (a ++ vs) ++ drop (k + length vs) l
+  put-free vs =
+      rw (
+        j-is,
+        take-at a (drop k l) k is,
+        drop-at a (drop k l) k is,
+        drop-drop (length vs) k l,
+        ← append-assoc a vs (drop (k + length vs) l),
+      )
+
+-- a part that starts at k, written from its start, as it is put back
+pub put-back : (l : List ℕ) (k : ℕ) (vs last : List ℕ) → k ≤ length l → last ≡ over (take (length l - k) (drop k l)) vs
+    → take k l ++ (last ++ drop (length l - k) (drop k l)) ≡ atFreeEnd k l vs
+put-back l k vs last h e =
+    let z : length (drop k l) ≤ length l - k = omega (arith, length-drop k l) in
+    rw (e, take-all (length l - k) (drop k l) z, drop-of-length-le (drop k l) z, append-nil (over (drop k l) vs))

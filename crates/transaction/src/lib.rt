@@ -9,18 +9,27 @@ use reading::OptionIntervention;
 use reading::RuleEngineMode;
 use reading::Verdict;
 use refusals::Sizes;
+use unit::Closed;
 use visit::State;
+use visit::Visited;
 ghost use mathlib.Core.Path.{_≡_};
 ghost use mathlib.Core.Bool.{_||_, not, cond};
-ghost use Prim.Native.Nat.{_≤_};
-ghost use mathlib.Core.List.{[], _∷_};
+ghost use Prim.Native.Nat.{ℕ, _+_, _*_, _≤_, min};
+ghost use mathlib.Core.List.{List, [], _∷_};
 ghost use lib.Dec.{eqb};
-ghost use lib.ListN.{length};
+ghost use lib.ListN.{length, getD};
 ghost use Rattle.reading.specs.Lists.{over};
 ghost use Rattle.reading.specs.Numbers.{modeNumbered, verdictNumber};
-ghost use Rattle.reading.specs.Controls.{isOff, modeOr};
-ghost use Rattle.reading.specs.Walk.{isStopped};
+ghost use Rattle.reading.specs.Controls.{isOff, modeOr, isRemoved, rangeList};
+ghost use Rattle.reading.specs.Call.{noRule, recordId};
+ghost use Rattle.reading.specs.Records.{ruleList, journalList, matchedIn};
+ghost use Rattle.reading.specs.Units.{unitIntervention};
+ghost use Rattle.reading.specs.Walk.{isStopped, verdictBy};
+ghost use Rattle.reading.specs.Outcome.{atFreeEnd};
+ghost use Rattle.members.specs.Given.{Rest, callWith};
+ghost use Rattle.visit.specs.Found.{foundAt};
 ghost use Rattle.coded.specs.Lent.{structOf};
+ghost use Rattle.intervention.specs.Ends.{endBy, stoppedBy};
 ghost use Rattle.phase.specs.Phase.{callOf, Ran};
 ghost use Rattle.phase.specs.Walked.{fresh, isGoing, isErrs, isAllows, endedBy, Ready, Walked};
 
@@ -57,6 +66,26 @@ fn is_last(ending: Ending, mode: RuleEngineMode) -> bool
     }
 }
 
+// How a visit leaves the phase, and whether it is the last.
+struct TurnEnd {
+    ending: Ending,
+    last: bool,
+}
+
+// The end of a turn, by what was found, what the unit gave, and the mode behind the unit's controls.
+fn turn_end(v: Visited, u: Closed, ruleset_mode: RuleEngineMode, h: Held) -> TurnEnd
+    ensures { λ r. ⌜ r .ending ≡ endBy (v .verdict) (u .disruptive) (modeOr «ruleset_mode» (h .settings .mode)) ⌝ }
+    ensures { λ r. ⌜ r .last ≡ (not (isGoing (r .ending)) || isOff (modeOr «ruleset_mode» (h .settings .mode))) ⌝ }
+{
+    let found = v.verdict;
+    let disruptive = u.disruptive;
+    let settings = h.settings;
+    let now = mode_under(ruleset_mode, settings);
+    let ending = intervention::end_of(found, disruptive, now);
+    let last = is_last(ending, now);
+    TurnEnd { ending, last }
+}
+
 // Writes a journal entry at the start of the journal's free part.
 fn put_visit(index: usize, found: Verdict, journal: &mut [u64])
     requires { ⌜ 2 ≤ length (now journal) ⌝ }
@@ -64,6 +93,30 @@ fn put_visit(index: usize, found: Verdict, journal: &mut [u64])
 {
     journal[0] = index as u64;
     journal[1] = visit::verdict_number(found);
+}
+
+// Visits the rule that the walk stands at, under the first `count` held ranges, and writes it behind the journal's entries.
+fn visit_next<'a>(
+    rules: &[u64],
+    outcomes: &[u8],
+    at: State,
+    visits: usize,
+    starts: &'a [u64; 256],
+    ends: &'a [u64; 256],
+    count: usize,
+    journal: &mut [u64],
+) -> Visited
+    requires { ⌜ 2 * visits + 2 ≤ length (now journal) ⌝ }
+    ensures { λ r. ⌜ r ≡ foundAt (ruleList (now (rules .entry))) at visits
+        (cond (isRemoved (rangeList (min count 256) (now (starts .entry)) (now (ends .entry))) (recordId (getD (ruleList (now (rules .entry))) (at .next) noRule)))
+        Verdict.Removed (verdictBy (getD (now (outcomes .entry)) (at .next) 0))) ⌝ }
+    ensures { λ r. ⌜ now (journal .exit) ≡ atFreeEnd (2 * visits) (now (journal .entry)) (at .next ∷ verdictNumber (r .verdict) ∷ []) ⌝ }
+{
+    let next = at.next;
+    let found = visit::verdict_at(rules, outcomes, next, starts, ends, count);
+    let free = 2 * visits;
+    put_visit(next, found, &mut journal[free..]);
+    visit::visit(rules, at, visits, found)
 }
 
 // 10 after an error, else 0.
@@ -145,6 +198,75 @@ fn ended(
     }
 }
 
+// The answer of a walk that a visit ended, the unit's members in a part of the journal.
+fn ended_at(
+    end: TurnEnd,
+    last: usize,
+    visits: usize,
+    ids: usize,
+    entries: usize,
+    members: &[u64],
+    rules: &[u64],
+    actions: &[u64],
+    phase: u64,
+    status: u64,
+    h: Held,
+    starts: [u64; 256],
+    ends: [u64; 256],
+    phases: [u64; 64],
+    positions: [u64; 64],
+) -> Phase
+    ensures { λ r. ⌜ ((markers text outcomes : List ℕ) (rest : Rest) → rest .status ≡ status
+        → r ≡ endedBy (end .ending) last visits ids entries
+        (stoppedBy (end .ending) (unitIntervention (callWith phase (now (rules .entry)) (now (actions .entry)) markers text outcomes rest)
+        (matchedIn (journalList (now (members .entry))))))
+        (structOf h starts ends phases positions)) ⌝ }
+{
+    let ending = end.ending;
+    let stop = intervention::stopped(ending, members, rules, actions, phase, status);
+    ended(
+        ending,
+        last,
+        visits,
+        ids,
+        entries,
+        stop,
+        h,
+        starts,
+        ends,
+        phases,
+        positions,
+    )
+}
+
+// The answer of a walk that came behind the last rule.
+fn ended_behind(
+    visits: usize,
+    ids: usize,
+    entries: usize,
+    h: Held,
+    starts: [u64; 256],
+    ends: [u64; 256],
+    phases: [u64; 64],
+    positions: [u64; 64],
+) -> Phase
+    ensures { λ r. ⌜ r ≡ endedBy Ending.GoesOn 0 visits ids entries OptionIntervention.None (structOf h starts ends phases positions) ⌝ }
+{
+    ended(
+        Ending::GoesOn,
+        0,
+        visits,
+        ids,
+        entries,
+        OptionIntervention::None,
+        h,
+        starts,
+        ends,
+        phases,
+        positions,
+    )
+}
+
 // The walk from the first rule on, where nothing stands against it. The controls' arrays are locals, lent where they are read
 // and where a closed unit changes them; the struct is made up again at the end.
 fn walk_rules(
@@ -176,9 +298,9 @@ fn walk_rules(
     let mut ends = held.ends;
     let mut phases = held.phases;
     let mut positions = held.positions;
-    let settings_before = held.settings;
+    let settings = held.settings;
     let mut h = Held {
-        settings: settings_before,
+        settings,
         ranges: held.ranges,
         targets: held.targets,
     };
@@ -191,21 +313,24 @@ fn walk_rules(
     let mut listed = listed_before;
     let mut written = written_before;
     while s.next < n {
-        let next = s.next;
-        let count = h.ranges;
-        let found = visit::verdict_at(rules, outcomes, next, &starts, &ends, count);
-        let v = visit::visit(rules, s, visits, found);
-        let place = 2 * visits;
-        put_visit(next, found, &mut journal[place..]);
+        let v = visit_next(
+            rules,
+            outcomes,
+            s,
+            visits,
+            &starts,
+            &ends,
+            h.ranges,
+            journal,
+        );
         visits += 1;
-        let after = v.after;
-        let from = 2 * after.first;
+        let from = 2 * v.after.first;
         let to = 2 * visits;
         let members = &journal[from..to];
         let free = 4 * written;
         let u = unit::close_unit(
             v.closes, // while a chain is open, nothing is written
-            after.next,
+            v.after.next,
             phase,
             members,
             rules,
@@ -232,19 +357,19 @@ fn walk_rules(
             &mut phases,
             &mut positions,
         );
-        let settings = h.settings;
-        let now = mode_under(ruleset_mode, settings);
-        let disruptive = u.disruptive;
-        let e = intervention::end_of(found, disruptive, now);
-        if is_last(e, now) {
-            let stop = intervention::stopped(e, members, rules, actions, phase, status);
-            return ended(
-                e,
-                next,
+        let end = turn_end(v, u, ruleset_mode, h);
+        if end.last {
+            return ended_at(
+                end,
+                s.next,
                 visits,
                 listed,
                 written,
-                stop,
+                members,
+                rules,
+                actions,
+                phase,
+                status,
                 h,
                 starts,
                 ends,
@@ -254,23 +379,11 @@ fn walk_rules(
         }
         s = State {
             next: u.next,
-            chained: after.chained,
-            first: after.first,
+            chained: v.after.chained,
+            first: v.after.first,
         };
     }
-    ended(
-        Ending::GoesOn,
-        0,
-        visits,
-        listed,
-        written,
-        OptionIntervention::None,
-        h,
-        starts,
-        ends,
-        phases,
-        positions,
-    )
+    ended_behind(visits, listed, written, h, starts, ends, phases, positions)
 }
 
 // An answer that leaves the transaction as it was.
