@@ -34,7 +34,7 @@ false-true : false ≡ true → ⊥
 false-true e = true-false (sym e)
 
 -- what the code finds of a rule is the definition's verdict, as long as all held ranges are in the arrays
-pub found-law : (q : Call) (c : held.Controls) (i : ℕ) (found : Verdict) → c .ranges ≤ 256
+found-law : (q : Call) (c : held.Controls) (i : ℕ) (found : Verdict) → c .ranges ≤ 256
     → found ≡ cond (isRemoved (rangeList (min (c .ranges) 256) (c .starts) (c .ends)) (recordId (getD (q .rules) i noRule)))
     Verdict.Removed (verdictBy (getD (q .outcomes) i 0))
     → found ≡ verdictAt q (controlsOf c) i
@@ -62,9 +62,24 @@ visit-verdict rules s visits found w e = rw e (go (ltb (s .next) (length rules))
     go true = found-by _ _ _ _ found _
     go false = refl
 
-pub visit-by-verdict : (rules : List Rule) (s : code.State) (visits : ℕ) (found : Verdict) (w : Visited)
-    → w ≡ foundAt rules s visits found → w ≡ foundAt rules s visits (w .verdict)
-visit-by-verdict rules s visits found w e = e ∙ ap (foundAt rules s visits) (sym (visit-verdict rules s visits found w e))
+-- the same of a visit under the ranges of a struct
+module _ (q : Call) (c : held.Controls) (s : code.State) (visits : ℕ) (few : c .ranges ≤ 256) (w : Visited)
+    (w-is : w ≡ foundAt (q .rules) s visits
+    (cond (isRemoved (rangeList (min (c .ranges) 256) (c .starts) (c .ends)) (recordId (getD (q .rules) (s .next) noRule)))
+    Verdict.Removed (verdictBy (getD (q .outcomes) (s .next) 0)))) where
+  abbrev byRanges : Verdict
+  byRanges =
+      cond (isRemoved (rangeList (min (c .ranges) 256) (c .starts) (c .ends)) (recordId (getD (q .rules) (s .next) noRule)))
+      Verdict.Removed (verdictBy (getD (q .outcomes) (s .next) 0))
+
+  verdict-now : w .verdict ≡ byRanges
+  verdict-now = visit-verdict (q .rules) s visits byRanges w w-is
+
+  pub verdict-found : w .verdict ≡ verdictAt q (controlsOf c) (s .next)
+  verdict-found = found-law q c (s .next) (w .verdict) few verdict-now
+
+  pub visit-found : w ≡ foundAt (q .rules) s visits (w .verdict)
+  visit-found = w-is ∙ ap (foundAt (q .rules) s visits) (sym verdict-now)
 
 -- the mode under the controls of a struct
 pub mode-law : (q : Call) (c : held.Controls) (m now : RuleEngineMode) → m ≡ modeNumbered (q .mode) → now ≡ modeOr m

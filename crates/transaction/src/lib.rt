@@ -154,51 +154,8 @@ fn gives_allow(ending: Ending) -> bool
     }
 }
 
-// The answer of a walk that ended so at the rule `last`, the controls from their parts. The transaction had no allow and no
-// intervention.
-fn ended(
-    ending: Ending,
-    last: usize,
-    visits: usize,
-    ids: usize,
-    entries: usize,
-    stop: OptionIntervention,
-    h: Held,
-    starts: [u64; 256],
-    ends: [u64; 256],
-    phases: [u64; 64],
-    positions: [u64; 64],
-) -> Phase
-    ensures { λ r. ⌜ r ≡ endedBy ending last visits ids entries stop (structOf h starts ends phases positions) ⌝ }
-{
-    let answer = answer_of(ending);
-    let error = error_of(ending, last);
-    let allowed = gives_allow(ending);
-    let settings = h.settings;
-    let controls = Controls {
-        settings,
-        starts,
-        ends,
-        ranges: h.ranges,
-        phases,
-        positions,
-        targets: h.targets,
-    };
-    Phase {
-        answer,
-        error,
-        visits,
-        transaction: Transaction {
-            controls,
-            allowed,
-            intervention: stop,
-            ids,
-            entries,
-        },
-    }
-}
-
-// The answer of a walk that a visit ended, the unit's members in a part of the journal.
+// The answer of a walk that a visit of the rule `last` ended so, the controls from their parts; the unit's members are in a part
+// of the journal. The transaction had no allow and no intervention.
 fn ended_at(
     end: TurnEnd,
     last: usize,
@@ -223,20 +180,32 @@ fn ended_at(
         (structOf h starts ends phases positions)) ⌝ }
 {
     let ending = end.ending;
-    let stop = intervention::stopped(ending, members, rules, actions, phase, status);
-    ended(
-        ending,
-        last,
-        visits,
-        ids,
-        entries,
-        stop,
-        h,
+    let answer = answer_of(ending);
+    let error = error_of(ending, last);
+    let allowed = gives_allow(ending);
+    let intervention = intervention::stopped(ending, members, rules, actions, phase, status);
+    let settings = h.settings;
+    let controls = Controls {
+        settings,
         starts,
         ends,
+        ranges: h.ranges,
         phases,
         positions,
-    )
+        targets: h.targets,
+    };
+    Phase {
+        answer,
+        error,
+        visits,
+        transaction: Transaction {
+            controls,
+            allowed,
+            intervention,
+            ids,
+            entries,
+        },
+    }
 }
 
 // The answer of a walk that came behind the last rule.
@@ -252,19 +221,28 @@ fn ended_behind(
 ) -> Phase
     ensures { λ r. ⌜ r ≡ endedBy Ending.GoesOn 0 visits ids entries OptionIntervention.None (structOf h starts ends phases positions) ⌝ }
 {
-    ended(
-        Ending::GoesOn,
-        0,
-        visits,
-        ids,
-        entries,
-        OptionIntervention::None,
-        h,
+    let settings = h.settings;
+    let controls = Controls {
+        settings,
         starts,
         ends,
+        ranges: h.ranges,
         phases,
         positions,
-    )
+        targets: h.targets,
+    };
+    Phase {
+        answer: 0,
+        error: 0,
+        visits,
+        transaction: Transaction {
+            controls,
+            allowed: false,
+            intervention: OptionIntervention::None,
+            ids,
+            entries,
+        },
+    }
 }
 
 // The walk from the first rule on, where nothing stands against it. The controls' arrays are locals, lent where they are read

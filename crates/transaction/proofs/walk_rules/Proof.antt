@@ -20,7 +20,7 @@ use Rattle.visit.specs.Found.{foundAt}
 use Rattle.phase.specs.declared.Transaction.{Transaction}
 use Rattle.phase.specs.Phase.{callOf}
 use Rattle.phase.specs.Walked.{fresh, isGoing}
-use Rattle.phase.proofs.Found.{found-law, mode-law, visit-verdict, visit-by-verdict}
+use Rattle.phase.proofs.Found.{verdict-found, visit-found, mode-law}
 use Rattle.phase.proofs.Progress.{Sofar, sofar-none, sofar-end, few-ranges, journal-same, ids-same, entries-same}
 use Rattle.phase.proofs.Turn.{Turning, inside-rules, behind-rules, journal-ahead, ids-start, entries-start, part-start, part-end}
 use Rattle.phase.proofs.Turn.{visits-fit, from-fits, from-fits-bytes, to-fits, listed-fits, written-fits, written-fits-bytes}
@@ -139,23 +139,20 @@ turn-by c w found-is w-is = record {
   w-is = w-is;
 }
 
-found-is : (c : tie.After-visit-next Inv-loop μ-loop)
-    → c .visit-next .result .verdict ≡ verdictAt (Q (head (turning c))) (controlsOf (held-at (head (turning c)))) (head (turning c) .loop .s .next)
-found-is c =
-    let h = head (turning c) in
-    found-law (Q h) (held-at h) (h .loop .s .next) (c .visit-next .result .verdict)
-    (few-ranges (Q h) (T h) (now (entered h .args .codes)) (now (entered h .args .ids)) (now (entered h .args .entries))
-    (now (entered h .args .journal)) (entered h .pre)
-    (h .loop .ids) (h .loop .entries) (h .loop .journal) (held-at h) (h .loop .s) (h .loop .visits) (h .loop .listed)
-    (h .loop .written) (h .loop .inv .0))
-    (visit-verdict (Q h .rules) (h .loop .s) (h .loop .visits) _ (c .visit-next .result) (c .visit-next .ensures .0))
+few : (c : tie.At-loop Inv-loop μ-loop) → held-at c .ranges ≤ 256
+few c =
+    few-ranges (Q c) (T c) (now (entered c .args .codes)) (now (entered c .args .ids)) (now (entered c .args .entries))
+    (now (entered c .args .journal)) (entered c .pre)
+    (c .loop .ids) (c .loop .entries) (c .loop .journal) (held-at c) (c .loop .s) (c .loop .visits) (c .loop .listed)
+    (c .loop .written) (c .loop .inv .0)
 
 -- the turn, where its rule has been visited
 abbrev turn : (c : tie.After-visit-next Inv-loop μ-loop) → Turning
 turn c =
-    turn-by (turning c) (c .visit-next .result) (found-is c)
-    (visit-by-verdict (Q (head (turning c)) .rules) (head (turning c) .loop .s) (head (turning c) .loop .visits) _ (c .visit-next .result)
-    (c .visit-next .ensures .0))
+    let h = head (turning c) in
+    turn-by (turning c) (c .visit-next .result)
+    (verdict-found (Q h) (held-at h) (h .loop .s) (h .loop .visits) (few h) (c .visit-next .result) (c .visit-next .ensures .0))
+    (visit-found (Q h) (held-at h) (h .loop .s) (h .loop .visits) (few h) (c .visit-next .result) (c .visit-next .ensures .0))
 
 -- the lists at the head of a turn
 journal-as-lent : (c : tie.At-loop Inv-loop μ-loop) → length (c .loop .journal) ≡ length (now (entered c .args .journal))
