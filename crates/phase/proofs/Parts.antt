@@ -42,7 +42,7 @@ module _ (a l : List ℕ) (k : ℕ) (is : length a ≡ k) (inside : k ≤ length
       )
 
 -- two entries stored one after the other
-pub put-two : (l : List ℕ) (x y : ℕ) → 2 ≤ length l → set (set l 0 x) 1 y ≡ over l (x ∷ y ∷ [])
+put-two : (l : List ℕ) (x y : ℕ) → 2 ≤ length l → set (set l 0 x) 1 y ≡ over l (x ∷ y ∷ [])
 put-two [] x y h = absurd (omega arith)
 put-two (a ∷ []) x y h = absurd (omega arith)
 put-two (a ∷ b ∷ l) x y h = refl
@@ -66,9 +66,10 @@ module _ (a l j : List ℕ) (k : ℕ) (j-is : j ≡ a ++ drop k l) (is : length 
         ← append-assoc a vs (drop (k + length vs) l),
       )
 
--- a part that starts at k, written from its start, as it is put back
-pub put-back : (l : List ℕ) (k : ℕ) (vs last : List ℕ) → k ≤ length l → last ≡ over (take (length l - k) (drop k l)) vs
-    → take k l ++ (last ++ drop (length l - k) (drop k l)) ≡ atFreeEnd k l vs
-put-back l k vs last h e =
-    let z : length (drop k l) ≤ length l - k = omega (arith, length-drop k l) in
-    rw (e, take-all (length l - k) (drop k l) z, drop-of-length-le (drop k l) z, append-nil (over (drop k l) vs))
+-- two entries stored one after the other, from k on
+pub put-at : (k : ℕ) (l : List ℕ) (x y : ℕ) → k + 2 ≤ length l → set (set l k x) (k + 1) y ≡ atFreeEnd k l (x ∷ y ∷ [])
+put-at zero l x y h = put-two l x y h
+put-at (suc k) [] x y h = absurd (omega arith)
+put-at (suc k) (a ∷ l) x y h =
+    let z : suc k + 1 ≡ suc (k + 1) = omega arith in
+    rw z (ap (λ (m : List ℕ). a ∷ m) (put-at k l x y (omega arith)))

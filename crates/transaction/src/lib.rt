@@ -86,15 +86,6 @@ fn turn_end(v: Visited, u: Closed, ruleset_mode: RuleEngineMode, h: Held) -> Tur
     TurnEnd { ending, last }
 }
 
-// Writes a journal entry at the start of the journal's free part.
-fn put_visit(index: usize, found: Verdict, journal: &mut [u64])
-    requires { ⌜ 2 ≤ length (now journal) ⌝ }
-    ensures { λ _. ⌜ now (journal .exit) ≡ over (now (journal .entry)) (index ∷ verdictNumber found ∷ []) ⌝ }
-{
-    journal[0] = index as u64;
-    journal[1] = visit::verdict_number(found);
-}
-
 // Visits the rule that the walk stands at, under the first `count` held ranges, and writes it behind the journal's entries.
 fn visit_next<'a>(
     rules: &[u64],
@@ -114,8 +105,9 @@ fn visit_next<'a>(
 {
     let next = at.next;
     let found = visit::verdict_at(rules, outcomes, next, starts, ends, count);
-    let free = 2 * visits;
-    put_visit(next, found, &mut journal[free..]);
+    let place = 2 * visits;
+    journal[place] = next as u64;
+    journal[place + 1] = visit::verdict_number(found);
     visit::visit(rules, at, visits, found)
 }
 
@@ -154,36 +146,26 @@ fn gives_allow(ending: Ending) -> bool
     }
 }
 
-// The answer of a walk that a visit of the rule `last` ended so, the controls from their parts; the unit's members are in a part
-// of the journal. The transaction had no allow and no intervention.
-fn ended_at(
-    end: TurnEnd,
+// The answer of a walk that ended so at the rule `last`, the controls from their parts. The transaction had no allow and no
+// intervention.
+fn ended(
+    ending: Ending,
     last: usize,
     visits: usize,
     ids: usize,
     entries: usize,
-    members: &[u64],
-    rules: &[u64],
-    actions: &[u64],
-    phase: u64,
-    status: u64,
+    stop: OptionIntervention,
     h: Held,
     starts: [u64; 256],
     ends: [u64; 256],
     phases: [u64; 64],
     positions: [u64; 64],
 ) -> Phase
-    ensures { λ r. ⌜ ((markers text outcomes : List ℕ) (rest : Rest) → rest .status ≡ status
-        → r ≡ endedBy (end .ending) last visits ids entries
-        (stoppedBy (end .ending) (unitIntervention (callWith phase (now (rules .entry)) (now (actions .entry)) markers text outcomes rest)
-        (matchedIn (journalList (now (members .entry))))))
-        (structOf h starts ends phases positions)) ⌝ }
+    ensures { λ r. ⌜ r ≡ endedBy ending last visits ids entries stop (structOf h starts ends phases positions) ⌝ }
 {
-    let ending = end.ending;
     let answer = answer_of(ending);
     let error = error_of(ending, last);
     let allowed = gives_allow(ending);
-    let intervention = intervention::stopped(ending, members, rules, actions, phase, status);
     let settings = h.settings;
     let controls = Controls {
         settings,
@@ -201,44 +183,7 @@ fn ended_at(
         transaction: Transaction {
             controls,
             allowed,
-            intervention,
-            ids,
-            entries,
-        },
-    }
-}
-
-// The answer of a walk that came behind the last rule.
-fn ended_behind(
-    visits: usize,
-    ids: usize,
-    entries: usize,
-    h: Held,
-    starts: [u64; 256],
-    ends: [u64; 256],
-    phases: [u64; 64],
-    positions: [u64; 64],
-) -> Phase
-    ensures { λ r. ⌜ r ≡ endedBy Ending.GoesOn 0 visits ids entries OptionIntervention.None (structOf h starts ends phases positions) ⌝ }
-{
-    let settings = h.settings;
-    let controls = Controls {
-        settings,
-        starts,
-        ends,
-        ranges: h.ranges,
-        phases,
-        positions,
-        targets: h.targets,
-    };
-    Phase {
-        answer: 0,
-        error: 0,
-        visits,
-        transaction: Transaction {
-            controls,
-            allowed: false,
-            intervention: OptionIntervention::None,
+            intervention: stop,
             ids,
             entries,
         },
@@ -337,17 +282,15 @@ fn walk_rules(
         );
         let end = turn_end(v, u, ruleset_mode, h);
         if end.last {
-            return ended_at(
-                end,
+            let ending = end.ending;
+            let stop = intervention::stopped(ending, members, rules, actions, phase, status);
+            return ended(
+                ending,
                 s.next,
                 visits,
                 listed,
                 written,
-                members,
-                rules,
-                actions,
-                phase,
-                status,
+                stop,
                 h,
                 starts,
                 ends,
@@ -361,7 +304,19 @@ fn walk_rules(
             first: v.after.first,
         };
     }
-    ended_behind(visits, listed, written, h, starts, ends, phases, positions)
+    ended(
+        Ending::GoesOn,
+        0,
+        visits,
+        listed,
+        written,
+        OptionIntervention::None,
+        h,
+        starts,
+        ends,
+        phases,
+        positions,
+    )
 }
 
 // An answer that leaves the transaction as it was.

@@ -4,13 +4,12 @@ use mathlib.Core.Path.{_∙_, ap, sym}
 use mathlib.Core.List.{[], _∷_}
 use native.Mathlib.Omega.{arith}
 use denote.Ref.{now}
-use lib.ListN.{length, length-drop, length-take}
-use Rattle.reading.specs.declared.Verdict.{Verdict}
+use lib.ListN.{length-set}
 use Rattle.reading.specs.Numbers.{verdictNumber}
 use Rattle.reading.specs.Records.{ruleList}
 use Rattle.reading.specs.Outcome.{atFreeEnd}
 use Rattle.phase.proofs.Found.{visit-verdict}
-use Rattle.phase.proofs.Parts.{put-back}
+use Rattle.phase.proofs.Parts.{put-at}
 use borrow.Author.Needs.{needs}
 use Rattle.transaction.proofs.visit_next.Statement.{statement}
 use Rattle.transaction.proofs.visit_next.Tie as tie
@@ -18,23 +17,28 @@ use Rattle.transaction.proofs.visit_next.Tie as tie
 verdict-at-requires : tie.Need-verdict-at-requires
 verdict-at-requires c κs = search needs
 
-mul-free : tie.Need-mul-free
-mul-free c = search needs
+mul-place : tie.Need-mul-place
+mul-place c = search needs
 
-mul-put-visit : tie.Need-mul-put-visit
-mul-put-visit c = search needs
+mul-journal : tie.Need-mul-journal
+mul-journal c = search needs
 
-sub-put-visit : tie.Need-sub-put-visit
-sub-put-visit c = search needs
+slice-write-journal : tie.Need-slice-write-journal
+slice-write-journal c = search needs
 
-part-put-visit-start : tie.Need-part-put-visit-start
-part-put-visit-start c = search needs
+verdict-number-requires : tie.Need-verdict-number-requires
+verdict-number-requires c κs = search needs
 
-part-put-visit-end : tie.Need-part-put-visit-end
-part-put-visit-end c = search needs
+add-journal : tie.Need-add-journal
+add-journal c = search needs
 
-put-visit-requires : tie.Need-put-visit-requires
-put-visit-requires c κs = search needs
+mul-journal-2 : tie.Need-mul-journal-2
+mul-journal-2 c = search needs
+
+slice-write-journal-2 : tie.Need-slice-write-journal-2
+slice-write-journal-2 c =
+    let s = c .before .before .before .before .before in
+    omega (arith, length-set (now (s .args .journal)) (2 * s .args .visits) (s .args .at .next), s .pre)
 
 visit-requires : tie.Need-visit-requires
 visit-requires c κs = search needs
@@ -44,14 +48,15 @@ same-length c = search needs
 
 returns : tie.Need-returns
 returns c =
-    let p = c .before .before .before in
-    let a = p .before .before .before .before .before .before .args in (
-      c .visit .ensures ∙ rw (p .before .before .verdict-at .ensures),
-      put-back (now (a .journal)) (2 * a .visits) (a .at .next ∷ verdictNumber (p .before .before .verdict-at .result) ∷ [])
-          (p .put-visit .last .1 .1 .0) (omega (arith, p .before .before .before .before .before .before .pre)) (p .put-visit .ensures)
-          ∙ ap (λ (f : Verdict). atFreeEnd (2 * a .visits) (now (a .journal)) (a .at .next ∷ verdictNumber f ∷ []))
-          (sym (visit-verdict (ruleList (now (a .rules))) (a .at) (a .visits) (p .before .before .verdict-at .result)
-          (c .visit .result) (c .visit .ensures))),
+    let found = c .before .before .verdict-at .result in
+    let number = c .before .verdict-number in
+    let s = c .before .before .before .before .before .before in
+    let a = s .args in (
+      c .visit .ensures ∙ rw (c .before .before .verdict-at .ensures),
+      put-at (2 * a .visits) (now (a .journal)) (a .at .next) (number .result) (s .pre)
+          ∙ ap (λ (n : ℕ). atFreeEnd (2 * a .visits) (now (a .journal)) (a .at .next ∷ n ∷ []))
+          (number .ensures ∙ ap verdictNumber
+          (sym (visit-verdict (ruleList (now (a .rules))) (a .at) (a .visits) found (c .visit .result) (c .visit .ensures)))),
     )
 
 pub visit-next-spec : {M : Type 1} → statement M
@@ -59,12 +64,13 @@ visit-next-spec =
     tie.close
     (tie.spec
     verdict-at-requires
-    mul-free
-    mul-put-visit
-    sub-put-visit
-    part-put-visit-start
-    part-put-visit-end
-    put-visit-requires
+    mul-place
+    mul-journal
+    slice-write-journal
+    verdict-number-requires
+    add-journal
+    mul-journal-2
+    slice-write-journal-2
     visit-requires
     same-length
     returns)

@@ -319,36 +319,41 @@ unit-controls-requires c κs = tt
 turn-end-requires : tie.Need-turn-end-requires Inv-loop μ-loop
 turn-end-requires c κs = tt
 
-ended-at-requires : tie.Need-ended-at-requires Inv-loop μ-loop
-ended-at-requires c κs = tt
+stopped-requires : tie.Need-stopped-requires Inv-loop μ-loop
+stopped-requires c κs = tt
+
+ended-requires : tie.Need-ended-requires Inv-loop μ-loop
+ended-requires c κs = tt
 
 same-length : tie.Need-same-length Inv-loop μ-loop
 same-length c =
-    ids-kept (turn (visited (closed (settled (c .before .before))))) (visited (closed (settled (c .before .before))) .visit-next .last .1 .1 .1 .1 .1 .1 .1 .0) (visited (closed (settled (c .before .before))) .visit-next .ensures .1)
-    ((closed (settled (c .before .before))) .close-unit .result) ((closed (settled (c .before .before))) .close-unit .last .1 .1 .1 .1 .1 .1 .1 .1 .1 .0) ((closed (settled (c .before .before))) .close-unit .last .1 .1 .1 .1 .1 .1 .1 .1 .1 .1 .0)
-    ((closed (settled (c .before .before))) .close-unit .ensures (restOf (Q (head (turning (visited (closed (settled (c .before .before)))))))))
+    ids-kept (turn (visited (closed (settled (c .before .before .before))))) (visited (closed (settled (c .before .before .before))) .visit-next .last .1 .1 .1 .1 .1 .1 .1 .0) (visited (closed (settled (c .before .before .before))) .visit-next .ensures .1)
+    ((closed (settled (c .before .before .before))) .close-unit .result) ((closed (settled (c .before .before .before))) .close-unit .last .1 .1 .1 .1 .1 .1 .1 .1 .1 .0) ((closed (settled (c .before .before .before))) .close-unit .last .1 .1 .1 .1 .1 .1 .1 .1 .1 .1 .0)
+    ((closed (settled (c .before .before .before))) .close-unit .ensures (restOf (Q (head (turning (visited (closed (settled (c .before .before .before)))))))))
 
 same-length-2 : tie.Need-same-length-2 Inv-loop μ-loop
 same-length-2 c =
-    entries-kept (turn (visited (closed (settled (c .before .before))))) (visited (closed (settled (c .before .before))) .visit-next .last .1 .1 .1 .1 .1 .1 .1 .0) (visited (closed (settled (c .before .before))) .visit-next .ensures .1)
-    ((closed (settled (c .before .before))) .close-unit .result) ((closed (settled (c .before .before))) .close-unit .last .1 .1 .1 .1 .1 .1 .1 .1 .1 .0) ((closed (settled (c .before .before))) .close-unit .last .1 .1 .1 .1 .1 .1 .1 .1 .1 .1 .0)
-    ((closed (settled (c .before .before))) .close-unit .ensures (restOf (Q (head (turning (visited (closed (settled (c .before .before)))))))))
+    entries-kept (turn (visited (closed (settled (c .before .before .before))))) (visited (closed (settled (c .before .before .before))) .visit-next .last .1 .1 .1 .1 .1 .1 .1 .0) (visited (closed (settled (c .before .before .before))) .visit-next .ensures .1)
+    ((closed (settled (c .before .before .before))) .close-unit .result) ((closed (settled (c .before .before .before))) .close-unit .last .1 .1 .1 .1 .1 .1 .1 .1 .1 .0) ((closed (settled (c .before .before .before))) .close-unit .last .1 .1 .1 .1 .1 .1 .1 .1 .1 .1 .0)
+    ((closed (settled (c .before .before .before))) .close-unit .ensures (restOf (Q (head (turning (visited (closed (settled (c .before .before .before)))))))))
 
 same-length-3 : tie.Need-same-length-3 Inv-loop μ-loop
 same-length-3 c =
-    journal-kept (turn (visited (closed (settled (c .before .before))))) (visited (closed (settled (c .before .before))) .visit-next .last .1 .1 .1 .1 .1 .1 .1 .0) (visited (closed (settled (c .before .before))) .visit-next .ensures .1)
-    ((closed (settled (c .before .before))) .close-unit .result) ((closed (settled (c .before .before))) .close-unit .last .1 .1 .1 .1 .1 .1 .1 .1 .1 .0) ((closed (settled (c .before .before))) .close-unit .last .1 .1 .1 .1 .1 .1 .1 .1 .1 .1 .0)
-    ((closed (settled (c .before .before))) .close-unit .ensures (restOf (Q (head (turning (visited (closed (settled (c .before .before)))))))))
+    journal-kept (turn (visited (closed (settled (c .before .before .before))))) (visited (closed (settled (c .before .before .before))) .visit-next .last .1 .1 .1 .1 .1 .1 .1 .0) (visited (closed (settled (c .before .before .before))) .visit-next .ensures .1)
+    ((closed (settled (c .before .before .before))) .close-unit .result) ((closed (settled (c .before .before .before))) .close-unit .last .1 .1 .1 .1 .1 .1 .1 .1 .1 .0) ((closed (settled (c .before .before .before))) .close-unit .last .1 .1 .1 .1 .1 .1 .1 .1 .1 .1 .0)
+    ((closed (settled (c .before .before .before))) .close-unit .ensures (restOf (Q (head (turning (visited (closed (settled (c .before .before .before)))))))))
 
 returns : tie.Need-returns Inv-loop μ-loop
 returns c =
-    rw (c .ended-at .ensures (now (entered (head (turning (visited (closed (settled (c .before .before)))))) .args .markers)) (now (entered (head (turning (visited (closed (settled (c .before .before)))))) .args .text)) (now (entered (head (turning (visited (closed (settled (c .before .before)))))) .args .outcomes)) (restOf (Q (head (turning (visited (closed (settled (c .before .before)))))))) refl)
-    (sofar-last (turn (visited (closed (settled (c .before .before))))) (visited (closed (settled (c .before .before))) .visit-next .last .1 .1 .1 .1 .1 .1 .1 .0) (visited (closed (settled (c .before .before))) .visit-next .ensures .1)
-    ((closed (settled (c .before .before))) .close-unit .result) ((closed (settled (c .before .before))) .close-unit .last .1 .1 .1 .1 .1 .1 .1 .1 .1 .0) ((closed (settled (c .before .before))) .close-unit .last .1 .1 .1 .1 .1 .1 .1 .1 .1 .1 .0)
-    ((closed (settled (c .before .before))) .close-unit .ensures (restOf (Q (head (turning (visited (closed (settled (c .before .before)))))))))
-    (held-now (settled (c .before .before))) (controls-now (settled (c .before .before)))
-    (c .before .before .turn-end .result .ending) (end-is (c .before .before)) _ refl
-    (last-by (c .before .before) true (c .before .if2 .taken)))
+    rw (c .ended .ensures)
+    (sofar-last (turn (visited (closed (settled (c .before .before .before))))) (visited (closed (settled (c .before .before .before))) .visit-next .last .1 .1 .1 .1 .1 .1 .1 .0) (visited (closed (settled (c .before .before .before))) .visit-next .ensures .1)
+    ((closed (settled (c .before .before .before))) .close-unit .result) ((closed (settled (c .before .before .before))) .close-unit .last .1 .1 .1 .1 .1 .1 .1 .1 .1 .0) ((closed (settled (c .before .before .before))) .close-unit .last .1 .1 .1 .1 .1 .1 .1 .1 .1 .1 .0)
+    ((closed (settled (c .before .before .before))) .close-unit .ensures (restOf (Q (head (turning (visited (closed (settled (c .before .before .before)))))))))
+    (held-now (settled (c .before .before .before))) (controls-now (settled (c .before .before .before))) ((c .before .before .before) .turn-end .result .ending) (end-is (c .before .before .before))
+    (c .before .stopped .result)
+    (c .before .stopped .ensures (now (entered (head (turning (visited (closed (settled (c .before .before .before)))))) .args .markers)) (now (entered (head (turning (visited (closed (settled (c .before .before .before)))))) .args .text)) (now (entered (head (turning (visited (closed (settled (c .before .before .before)))))) .args .outcomes))
+    (restOf (Q (head (turning (visited (closed (settled (c .before .before .before)))))))) refl)
+    (last-by (c .before .before .before) true (c .before .before .if2 .taken)))
 
 loop-less : tie.Need-loop-less Inv-loop μ-loop
 loop-less c =
@@ -367,8 +372,8 @@ loop-again c = (
   whole-now (settled (c .before)),
 )
 
-ended-behind-requires : tie.Need-ended-behind-requires Inv-loop μ-loop
-ended-behind-requires c κs = tt
+ended-requires-2 : tie.Need-ended-requires-2 Inv-loop μ-loop
+ended-requires-2 c κs = tt
 
 same-length-4 : tie.Need-same-length-4 Inv-loop μ-loop
 same-length-4 c = ids-as-lent (c .before .before .before)
@@ -382,7 +387,7 @@ same-length-6 c = journal-as-lent (c .before .before .before)
 returns-2 : tie.Need-returns-2 Inv-loop μ-loop
 returns-2 c =
     let h = c .before .before .before in
-    rw (c .ended-behind .ensures)
+    rw (c .ended2 .ensures)
     (sofar-end (Q h) (T h) (now (entered h .args .ids)) (now (entered h .args .entries)) (now (entered h .args .journal))
     (h .loop .ids) (h .loop .entries) (h .loop .journal) (held-at h) (h .loop .s) (h .loop .visits) (h .loop .listed) (h .loop .written)
     (h .loop .inv .0) (behind-rules (now (entered h .args .rules)) (h .loop .s .next) (c .before .if1 .left)))
@@ -421,14 +426,15 @@ walk-rules-spec =
     slice-aggregate-unit-controls-4
     unit-controls-requires
     turn-end-requires
-    ended-at-requires
+    stopped-requires
+    ended-requires
     same-length
     same-length-2
     same-length-3
     returns
     loop-less
     loop-again
-    ended-behind-requires
+    ended-requires-2
     same-length-4
     same-length-5
     same-length-6
