@@ -207,29 +207,6 @@ module _ (turn : Turning) where
   goes = goes-ahead q st (verdictAt q (controlsOf c) (s .next)) (isLink q (s .next)) inside
 
   -- ROOM
-  pub journal-free : 2 ≤ length (take (length journal - 2 * visits) (drop (2 * visits) journal))
-  journal-free =
-      let d = journal-done q t codes ids₀ entries₀ journal₀ ready (so .done) (v ∷ tail) step ids entries journal visits listed
-      written (so .lists) in
-      let r = journal-inside q t codes ids₀ entries₀ journal₀ ready (so .done) (v ∷ tail) step ids entries journal visits listed
-      written (so .lists) in
-      omega (
-        arith,
-        free-length (journalWords (journalOf (so .done))) journal₀ journal (2 * visits) (so .lists .journal-is) d
-            (omega (arith, r)),
-        r,
-      )
-
-  journal-start : 2 * visits ≤ length journal
-  journal-start =
-      omega (
-        arith,
-        journal-inside q t codes ids₀ entries₀ journal₀ ready (so .done) (v ∷ tail) step ids entries journal visits listed written
-            (so .lists),
-        journal-length q t codes ids₀ entries₀ journal₀ ready (so .done) (v ∷ tail) step ids entries journal visits listed written
-            (so .lists),
-      )
-
   pub ids-start : listed ≤ length ids
   ids-start =
       omega (
