@@ -4,7 +4,7 @@ use mathlib.Core.Path.{_∙_, ap, sym}
 use mathlib.Core.List.{[], _∷_}
 use native.Mathlib.Omega.{arith}
 use denote.Ref.{now}
-use lib.ListN.{length-set}
+use lib.Seq.{lt-length-set}
 use Rattle.reading.specs.Numbers.{verdictNumber}
 use Rattle.reading.specs.Records.{ruleList}
 use Rattle.reading.specs.Outcome.{atFreeEnd}
@@ -38,7 +38,7 @@ mul-journal-2 c = search needs
 slice-write-journal-2 : tie.Need-slice-write-journal-2
 slice-write-journal-2 c =
     let s = c .before .before .before .before .before in
-    omega (arith, length-set (now (s .args .journal)) (2 * s .args .visits) (s .args .at .next), s .pre)
+    lt-length-set (now (s .args .journal)) (2 * s .args .visits) _ (omega (arith, s .pre))
 
 visit-requires : tie.Need-visit-requires
 visit-requires c κs = search needs
