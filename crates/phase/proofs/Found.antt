@@ -6,11 +6,12 @@ use mathlib.Core.List.{List, [], _∷_, _++_, append-assoc, append-nil}
 use native.Mathlib.Omega.{arith}
 use native.Mathlib.Numerals.{add-one}
 use borrow.Author.Tests.{lt-ltb}
-use lib.Dec.{eqb}
+use lib.Dec.{eqb, ltb}
 use lib.ListN.{length, drop, getD, drop-of-length-le, length-append}
 use lib.Seq.{drop-append-le}
 use Rattle.reading.specs.declared.Verdict.{Verdict}
 use Rattle.reading.specs.declared.JournalEntry.{JournalEntry}
+use Rattle.reading.specs.declared.Rule.{Rule}
 use Rattle.reading.specs.declared.RuleEngineMode.{RuleEngineMode}
 use Rattle.reading.specs.declared.DisruptiveOutcome.{DisruptiveOutcome}
 use Rattle.reading.specs.Lists.{keep, gather}
@@ -20,25 +21,65 @@ use Rattle.reading.specs.Reading.{rust}
 use Rattle.reading.specs.Controls.{Controls, isRemoved, rangeList, modeOr}
 use Rattle.reading.specs.Call.{Call, ruleCount, ruleAt, idAt, outcomeAt, recordId, isLink, noRule, modeUnder}
 use Rattle.reading.specs.Units.{unitControls, unitFlow, unitDisruptive}
-use Rattle.reading.specs.Walk.{State, Visit, visitBy, visitAt, verdictAt, verdictBy, afterChain, afterFlow, entryOf}
+use Rattle.reading.specs.Walk.{State, Visit, visitBy, visitAt, verdictAt, verdictBy, afterChain, afterFlow, entryOf, chainRest}
 use Rattle.control.specs.declared.Controls as held
 use Rattle.control.specs.Held.{controlsOf}
 use Rattle.members.proofs.MatchedLaws.{matched-append}
 use Rattle.visit.specs.declared.Visited.{Visited}
 use Rattle.visit.specs.declared.State as code
-use Rattle.visit.specs.Found.{entryBy, foundBy, foundAt}
+use Rattle.visit.specs.Found.{entryBy, passed, foundBy, foundAt}
 use Rattle.phase.proofs.Turns.{true-false}
 
 false-true : false ≡ true → ⊥
 false-true e = true-false (sym e)
 
 -- what the code finds of a rule is the definition's verdict, as long as all held ranges are in the arrays
-pub found-law : (q : Call) (c : held.Controls) (i : ℕ) (found : Verdict) → c .ranges ≤ 256
+found-law : (q : Call) (c : held.Controls) (i : ℕ) (found : Verdict) → c .ranges ≤ 256
     → found ≡ cond (isRemoved (rangeList (min (c .ranges) 256) (c .starts) (c .ends)) (recordId (getD (q .rules) i noRule)))
     Verdict.Removed (verdictBy (getD (q .outcomes) i 0))
     → found ≡ verdictAt q (controlsOf c) i
 unfolding verdictAt idAt ruleAt outcomeAt controlsOf
 found-law q c i found h e = let z : min (c .ranges) 256 ≡ c .ranges = omega arith in rw z at e
+
+-- a visit has what was found in it
+found-by : (behind rest : ℕ) (chained : Bool) (first : ℕ) (found : Verdict) (link : Bool)
+    → foundBy behind rest chained first found link .verdict ≡ found
+found-by behind rest chained first Verdict.Missed link = refl
+found-by behind rest chained first Verdict.Matched true = refl
+found-by behind rest chained first Verdict.Matched false = refl
+found-by behind rest chained first Verdict.Removed true = refl
+found-by behind rest chained first Verdict.Removed false = refl
+found-by behind rest chained first Verdict.Error link = refl
+
+pub visit-verdict : (rules : List Rule) (s : code.State) (visits : ℕ) (found : Verdict) (w : Visited)
+    → w ≡ foundAt rules s visits found → w .verdict ≡ found
+unfolding foundAt
+visit-verdict rules s visits found w e = rw e (go (ltb (s .next) (length rules)))
+  where
+    go : (inside : Bool) → cond inside
+        (foundBy (s .next + 1) (s .next + chainRest (drop (s .next) rules)) (s .chained) (entryBy s visits) found
+        (eqb (getD rules (s .next) noRule .link) 1)) (passed found (s .next) (s .chained) (entryBy s visits)) .verdict ≡ found
+    go true = found-by _ _ _ _ found _
+    go false = refl
+
+-- the same of a visit under the ranges of a struct
+module _ (q : Call) (c : held.Controls) (s : code.State) (visits : ℕ) (few : c .ranges ≤ 256) (w : Visited)
+    (w-is : w ≡ foundAt (q .rules) s visits
+    (cond (isRemoved (rangeList (min (c .ranges) 256) (c .starts) (c .ends)) (recordId (getD (q .rules) (s .next) noRule)))
+    Verdict.Removed (verdictBy (getD (q .outcomes) (s .next) 0)))) where
+  abbrev byRanges : Verdict
+  byRanges =
+      cond (isRemoved (rangeList (min (c .ranges) 256) (c .starts) (c .ends)) (recordId (getD (q .rules) (s .next) noRule)))
+      Verdict.Removed (verdictBy (getD (q .outcomes) (s .next) 0))
+
+  verdict-now : w .verdict ≡ byRanges
+  verdict-now = visit-verdict (q .rules) s visits byRanges w w-is
+
+  pub verdict-found : w .verdict ≡ verdictAt q (controlsOf c) (s .next)
+  verdict-found = found-law q c (s .next) (w .verdict) few verdict-now
+
+  pub visit-found : w ≡ foundAt (q .rules) s visits (w .verdict)
+  visit-found = w-is ∙ ap (foundAt (q .rules) s visits) (sym verdict-now)
 
 -- the mode under the controls of a struct
 pub mode-law : (q : Call) (c : held.Controls) (m now : RuleEngineMode) → m ≡ modeNumbered (q .mode) → now ≡ modeOr m

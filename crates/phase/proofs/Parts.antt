@@ -6,6 +6,7 @@ use native.Mathlib.Omega.{arith}
 use lib.ListN.{length, take, drop, set, length-append, length-drop, length-take, drop-of-length-le}
 use lib.Seq.{take-at, drop-at, drop-drop, take-all}
 use Rattle.reading.specs.Lists.{over}
+use Rattle.reading.specs.Outcome.{atFreeEnd}
 
 -- a list l whose first k entries are replaced by `a`, of that length, as a callee is lent it from k on
 module _ (a l : List ℕ) (k : ℕ) (is : length a ≡ k) (inside : k ≤ length l) where
@@ -41,7 +42,7 @@ module _ (a l : List ℕ) (k : ℕ) (is : length a ≡ k) (inside : k ≤ length
       )
 
 -- two entries stored one after the other
-pub put-two : (l : List ℕ) (x y : ℕ) → 2 ≤ length l → set (set l 0 x) 1 y ≡ over l (x ∷ y ∷ [])
+put-two : (l : List ℕ) (x y : ℕ) → 2 ≤ length l → set (set l 0 x) 1 y ≡ over l (x ∷ y ∷ [])
 put-two [] x y h = absurd (omega arith)
 put-two (a ∷ []) x y h = absurd (omega arith)
 put-two (a ∷ b ∷ l) x y h = refl
@@ -54,3 +55,21 @@ module _ (a l j : List ℕ) (k : ℕ) (j-is : j ≡ a ++ drop k l) (is : length 
   pub put-in : (vs last : List ℕ) → last ≡ over (take (length j - k) (drop k j)) vs
       → take k j ++ (last ++ drop (length j - k) (drop k j)) ≡ (a ++ vs) ++ drop (k + length vs) l
   put-in vs last e = rw j-is (put-part a l k is inside vs last (rw j-is at e))
+
+  pub put-free : (vs : List ℕ) → atFreeEnd k j vs ≡ (a ++ vs) ++ drop (k + length vs) l
+  put-free vs =
+      rw (
+        j-is,
+        take-at a (drop k l) k is,
+        drop-at a (drop k l) k is,
+        drop-drop (length vs) k l,
+        ← append-assoc a vs (drop (k + length vs) l),
+      )
+
+-- two entries stored one after the other, from k on
+pub put-at : (k : ℕ) (l : List ℕ) (x y : ℕ) → k + 2 ≤ length l → set (set l k x) (k + 1) y ≡ atFreeEnd k l (x ∷ y ∷ [])
+put-at zero l x y h = put-two l x y h
+put-at (suc k) [] x y h = absurd (omega arith)
+put-at (suc k) (a ∷ l) x y h =
+    let z : suc k + 1 ≡ suc (k + 1) = omega arith in
+    rw z (ap (λ (m : List ℕ). a ∷ m) (put-at k l x y (omega arith)))

@@ -9,18 +9,24 @@ use reading::OptionIntervention;
 use reading::RuleEngineMode;
 use reading::Verdict;
 use refusals::Sizes;
+use unit::Closed;
 use visit::State;
+use visit::Visited;
 ghost use mathlib.Core.Path.{_≡_};
 ghost use mathlib.Core.Bool.{_||_, not, cond};
-ghost use Prim.Native.Nat.{_≤_};
+ghost use Prim.Native.Nat.{_+_, _*_, _≤_, min};
 ghost use mathlib.Core.List.{[], _∷_};
 ghost use lib.Dec.{eqb};
-ghost use lib.ListN.{length};
-ghost use Rattle.reading.specs.Lists.{over};
+ghost use lib.ListN.{length, getD};
 ghost use Rattle.reading.specs.Numbers.{modeNumbered, verdictNumber};
-ghost use Rattle.reading.specs.Controls.{isOff, modeOr};
-ghost use Rattle.reading.specs.Walk.{isStopped};
+ghost use Rattle.reading.specs.Controls.{isOff, modeOr, isRemoved, rangeList};
+ghost use Rattle.reading.specs.Call.{noRule, recordId};
+ghost use Rattle.reading.specs.Records.{ruleList};
+ghost use Rattle.reading.specs.Walk.{isStopped, verdictBy};
+ghost use Rattle.reading.specs.Outcome.{atFreeEnd};
+ghost use Rattle.visit.specs.Found.{foundAt};
 ghost use Rattle.coded.specs.Lent.{structOf};
+ghost use Rattle.intervention.specs.Ends.{endBy};
 ghost use Rattle.phase.specs.Phase.{callOf, Ran};
 ghost use Rattle.phase.specs.Walked.{fresh, isGoing, isErrs, isAllows, endedBy, Ready, Walked};
 
@@ -57,13 +63,49 @@ fn is_last(ending: Ending, mode: RuleEngineMode) -> bool
     }
 }
 
-// Writes a journal entry at the start of the journal's free part.
-fn put_visit(index: usize, found: Verdict, journal: &mut [u64])
-    requires { ⌜ 2 ≤ length (now journal) ⌝ }
-    ensures { λ _. ⌜ now (journal .exit) ≡ over (now (journal .entry)) (index ∷ verdictNumber found ∷ []) ⌝ }
+// How a visit leaves the phase, and whether it is the last.
+struct TurnEnd {
+    ending: Ending,
+    last: bool,
+}
+
+// The end of a turn, by what was found, what the unit gave, and the mode behind the unit's controls.
+fn turn_end(v: Visited, u: Closed, ruleset_mode: RuleEngineMode, h: Held) -> TurnEnd
+    ensures { λ r. ⌜ r .ending ≡ endBy (v .verdict) (u .disruptive) (modeOr «ruleset_mode» (h .settings .mode)) ⌝ }
+    ensures { λ r. ⌜ r .last ≡ (not (isGoing (r .ending)) || isOff (modeOr «ruleset_mode» (h .settings .mode))) ⌝ }
 {
-    journal[0] = index as u64;
-    journal[1] = visit::verdict_number(found);
+    let found = v.verdict;
+    let disruptive = u.disruptive;
+    let settings = h.settings;
+    let now = mode_under(ruleset_mode, settings);
+    let ending = intervention::end_of(found, disruptive, now);
+    let last = is_last(ending, now);
+    TurnEnd { ending, last }
+}
+
+// Visits the rule that the walk stands at, under the first `count` held ranges, and writes it behind the journal's entries.
+fn visit_next<'a>(
+    rules: &[u64],
+    outcomes: &[u8],
+    at: State,
+    visits: usize,
+    starts: &'a [u64; 256],
+    ends: &'a [u64; 256],
+    count: usize,
+    journal: &mut [u64],
+) -> Visited
+    requires { ⌜ 2 * visits + 2 ≤ length (now journal) ⌝ }
+    ensures { λ r. ⌜ r ≡ foundAt (ruleList (now (rules .entry))) at visits
+        (cond (isRemoved (rangeList (min count 256) (now (starts .entry)) (now (ends .entry))) (recordId (getD (ruleList (now (rules .entry))) (at .next) noRule)))
+        Verdict.Removed (verdictBy (getD (now (outcomes .entry)) (at .next) 0))) ⌝ }
+    ensures { λ r. ⌜ now (journal .exit) ≡ atFreeEnd (2 * visits) (now (journal .entry)) (at .next ∷ verdictNumber (r .verdict) ∷ []) ⌝ }
+{
+    let next = at.next;
+    let found = visit::verdict_at(rules, outcomes, next, starts, ends, count);
+    let place = 2 * visits;
+    journal[place] = next as u64;
+    journal[place + 1] = visit::verdict_number(found);
+    visit::visit(rules, at, visits, found)
 }
 
 // 10 after an error, else 0.
@@ -176,9 +218,9 @@ fn walk_rules(
     let mut ends = held.ends;
     let mut phases = held.phases;
     let mut positions = held.positions;
-    let settings_before = held.settings;
+    let settings = held.settings;
     let mut h = Held {
-        settings: settings_before,
+        settings,
         ranges: held.ranges,
         targets: held.targets,
     };
@@ -191,21 +233,24 @@ fn walk_rules(
     let mut listed = listed_before;
     let mut written = written_before;
     while s.next < n {
-        let next = s.next;
-        let count = h.ranges;
-        let found = visit::verdict_at(rules, outcomes, next, &starts, &ends, count);
-        let v = visit::visit(rules, s, visits, found);
-        let place = 2 * visits;
-        put_visit(next, found, &mut journal[place..]);
+        let v = visit_next(
+            rules,
+            outcomes,
+            s,
+            visits,
+            &starts,
+            &ends,
+            h.ranges,
+            journal,
+        );
         visits += 1;
-        let after = v.after;
-        let from = 2 * after.first;
+        let from = 2 * v.after.first;
         let to = 2 * visits;
         let members = &journal[from..to];
         let free = 4 * written;
         let u = unit::close_unit(
             v.closes, // while a chain is open, nothing is written
-            after.next,
+            v.after.next,
             phase,
             members,
             rules,
@@ -232,15 +277,13 @@ fn walk_rules(
             &mut phases,
             &mut positions,
         );
-        let settings = h.settings;
-        let now = mode_under(ruleset_mode, settings);
-        let disruptive = u.disruptive;
-        let e = intervention::end_of(found, disruptive, now);
-        if is_last(e, now) {
-            let stop = intervention::stopped(e, members, rules, actions, phase, status);
+        let end = turn_end(v, u, ruleset_mode, h);
+        if end.last {
+            let ending = end.ending;
+            let stop = intervention::stopped(ending, members, rules, actions, phase, status);
             return ended(
-                e,
-                next,
+                ending,
+                s.next,
                 visits,
                 listed,
                 written,
@@ -254,8 +297,8 @@ fn walk_rules(
         }
         s = State {
             next: u.next,
-            chained: after.chained,
-            first: after.first,
+            chained: v.after.chained,
+            first: v.after.first,
         };
     }
     ended(
