@@ -4,11 +4,9 @@ use numbered::HostControls;
 use numbered::HostNumber;
 use numbered::HostPlace;
 use reading::OptionPlace;
-use reading::RuleEngineMode;
 ghost use mathlib.Core.Path.{_≡_};
 ghost use mathlib.Core.Bool.{cond, _||_, _&&_};
 ghost use lib.Dec.{ltb};
-ghost use Rattle.reading.specs.Numbers.{modeNumbered};
 ghost use Rattle.numbered.specs.Parts.{numberKnown};
 ghost use Rattle.numbered.specs.Controls.{knownControls};
 ghost use Rattle.asked.specs.Asked.{refusalIn, hostMode, hostRemoved, hostTargetCount, hostTarget, hostAccess, hostProcessor};
@@ -25,18 +23,6 @@ pub struct HostAsked {
 pub struct HostTarget {
     pub answer: u64,
     pub target: HostPlace,
-}
-
-fn mode_numbered(mode: u64) -> RuleEngineMode
-    ensures { λ r. ⌜ r ≡ modeNumbered mode ⌝ }
-{
-    if mode == 0 {
-        return RuleEngineMode::On;
-    }
-    if mode == 1 {
-        return RuleEngineMode::DetectionOnly;
-    }
-    RuleEngineMode::Off
 }
 
 // 3, 5 or 0, of controls with so many ranges and targets.
@@ -76,7 +62,10 @@ pub fn engine_mode(c: HostControls, ruleset_mode: u64) -> HostAsked
     if n != 0 {
         return refused(n);
     }
-    let q = questions::engine_mode(numbered::controls_from_host(c), mode_numbered(ruleset_mode));
+    let q = questions::engine_mode(
+        numbered::controls_from_host(c),
+        held::mode_numbered(ruleset_mode),
+    );
     let mode = q.mode;
     let value = numbered::mode_number(mode);
     HostAsked { answer: 0, value }

@@ -7,6 +7,7 @@ ghost use mathlib.Core.Bool.{_||_};
 ghost use Prim.Native.Nat.{_<_, min};
 ghost use lib.Dec.{ltb};
 ghost use lib.ListN.{getD};
+ghost use Rattle.reading.specs.Numbers.{modeNumbered};
 ghost use Rattle.reading.specs.Controls.{isRemoved, inRange, rangeList, modeOr, mostRanges, mostTargets};
 
 // How many of 256 places are looked at where `count` are said to be in use.
@@ -89,4 +90,17 @@ pub fn mode_or(ruleset_mode: RuleEngineMode, setting: ModeSetting) -> RuleEngine
         ModeSetting::Set(mode) => mode,
         ModeSetting::Unset => ruleset_mode,
     }
+}
+
+// The mode of a number; refusal 1 turns every number above 2 away.
+pub fn mode_numbered(mode: u64) -> RuleEngineMode
+    ensures { λ r. ⌜ r ≡ modeNumbered mode ⌝ }
+{
+    if mode == 0 {
+        return RuleEngineMode::On;
+    }
+    if mode == 1 {
+        return RuleEngineMode::DetectionOnly;
+    }
+    RuleEngineMode::Off
 }

@@ -85,15 +85,14 @@ module _ (g : Given) where
   }
 
   -- that nothing is to do
-  pub idle-is : (stopped : Bool) (set under : RuleEngineMode) (b : Bool) → stopped ≡ isStopped (g .t .intervention)
-      → set ≡ modeNumbered (g .mode) → under ≡ modeOr set (g .t .controls .settings .mode)
-      → b ≡ (g .t .allowed || stopped || isOff under || eqb (length (g .rules) / 5) 0)
+  pub idle-is : (set : RuleEngineMode) (b : Bool) → set ≡ modeNumbered (g .mode)
+      → b ≡ (g .t .allowed || isStopped (g .t .intervention) || isOff (modeOr set (g .t .controls .settings .mode)) || eqb (length (g .rules) / 5) 0)
       → nothingToDo q ≡ b
   unfolding controlsOf
-  idle-is stopped set under b s m u e =
+  idle-is set b m e =
       let off : Bool = isOff (modeOr (modeNumbered (g .mode)) (g .t .controls .settings .mode)) in
       ap (λ (n : ℕ). g .t .allowed || isStopped (g .t .intervention) || off || eqb n 0) (length-rules (g .rules))
-      ∙ sym (e ∙ rw (s, u, m))
+      ∙ sym (e ∙ rw m)
 
   -- what refusals 8 and 9 test, of the codes that are lent
   abbrev exceeds : (ℕ → ℕ) → ℕ → ℕ → List ℕ → Bool

@@ -1,87 +1,28 @@
 // The phase call (`Transaction::run_phase` in engine/transaction.rs), by value: transaction in, transaction and answer out.
 use coded::Held;
 use control::Controls;
-use control::Settings;
 use intervention::Ending;
 use phase::Phase;
 use phase::Transaction;
 use reading::OptionIntervention;
-use reading::RuleEngineMode;
 use reading::Verdict;
 use refusals::Sizes;
-use unit::Closed;
 use visit::State;
 use visit::Visited;
 ghost use mathlib.Core.Path.{_≡_};
-ghost use mathlib.Core.Bool.{_||_, not, cond};
+ghost use mathlib.Core.Bool.{cond};
 ghost use Prim.Native.Nat.{_+_, _*_, _≤_, min};
 ghost use mathlib.Core.List.{[], _∷_};
-ghost use lib.Dec.{eqb};
 ghost use lib.ListN.{length, getD};
-ghost use Rattle.reading.specs.Numbers.{modeNumbered, verdictNumber};
-ghost use Rattle.reading.specs.Controls.{isOff, modeOr, isRemoved, rangeList};
+ghost use Rattle.reading.specs.Numbers.{verdictNumber};
+ghost use Rattle.reading.specs.Controls.{isRemoved, rangeList};
 ghost use Rattle.reading.specs.Call.{noRule, recordId};
 ghost use Rattle.reading.specs.Records.{ruleList};
-ghost use Rattle.reading.specs.Walk.{isStopped, verdictBy};
+ghost use Rattle.reading.specs.Walk.{verdictBy};
 ghost use Rattle.reading.specs.Outcome.{atFreeEnd};
 ghost use Rattle.visit.specs.Found.{foundAt};
-ghost use Rattle.coded.specs.Lent.{structOf};
-ghost use Rattle.intervention.specs.Ends.{endBy};
 ghost use Rattle.phase.specs.Phase.{callOf, Ran};
-ghost use Rattle.phase.specs.Walked.{fresh, isGoing, isErrs, isAllows, endedBy, Ready, Walked};
-
-// The mode of a number; refusal 1 turns every number above 2 away.
-fn mode_numbered(mode: u64) -> RuleEngineMode
-    ensures { λ r. ⌜ r ≡ modeNumbered mode ⌝ }
-{
-    if mode == 0 {
-        return RuleEngineMode::On;
-    }
-    if mode == 1 {
-        return RuleEngineMode::DetectionOnly;
-    }
-    RuleEngineMode::Off
-}
-
-// The mode under the settings.
-fn mode_under(ruleset_mode: RuleEngineMode, settings: Settings) -> RuleEngineMode
-    ensures { λ r. ⌜ r ≡ modeOr «ruleset_mode» (settings .mode) ⌝ }
-{
-    let setting = settings.mode;
-    held::mode_or(ruleset_mode, setting)
-}
-
-// Whether a visit is the last: it ended the phase, or the mode is Off behind it.
-fn is_last(ending: Ending, mode: RuleEngineMode) -> bool
-    ensures { λ r. ⌜ r ≡ (not (isGoing ending) || isOff mode) ⌝ }
-{
-    match ending {
-        Ending::GoesOn => intervention::is_off(mode),
-        Ending::Allows => true,
-        Ending::Errs => true,
-        Ending::Stops => true,
-    }
-}
-
-// How a visit leaves the phase, and whether it is the last.
-struct TurnEnd {
-    ending: Ending,
-    last: bool,
-}
-
-// The end of a turn, by what was found, what the unit gave, and the mode behind the unit's controls.
-fn turn_end(v: Visited, u: Closed, ruleset_mode: RuleEngineMode, h: Held) -> TurnEnd
-    ensures { λ r. ⌜ r .ending ≡ endBy (v .verdict) (u .disruptive) (modeOr «ruleset_mode» (h .settings .mode)) ⌝ }
-    ensures { λ r. ⌜ r .last ≡ (not (isGoing (r .ending)) || isOff (modeOr «ruleset_mode» (h .settings .mode))) ⌝ }
-{
-    let found = v.verdict;
-    let disruptive = u.disruptive;
-    let settings = h.settings;
-    let now = mode_under(ruleset_mode, settings);
-    let ending = intervention::end_of(found, disruptive, now);
-    let last = is_last(ending, now);
-    TurnEnd { ending, last }
-}
+ghost use Rattle.phase.specs.Walked.{fresh, Ready, Walked};
 
 // Visits the rule that the walk stands at, under the first `count` held ranges, and writes it behind the journal's entries.
 fn visit_next<'a>(
@@ -106,85 +47,6 @@ fn visit_next<'a>(
     journal[place] = next as u64;
     journal[place + 1] = visit::verdict_number(found);
     visit::visit(rules, at, visits, found)
-}
-
-// 10 after an error, else 0.
-fn answer_of(ending: Ending) -> u64
-    ensures { λ r. ⌜ r ≡ cond (isErrs ending) 10 0 ⌝ }
-{
-    match ending {
-        Ending::GoesOn => 0,
-        Ending::Allows => 0,
-        Ending::Errs => 10,
-        Ending::Stops => 0,
-    }
-}
-
-// The index of the rule that had an error, else 0.
-fn error_of(ending: Ending, last: usize) -> u64
-    ensures { λ r. ⌜ r ≡ cond (isErrs ending) last 0 ⌝ }
-{
-    match ending {
-        Ending::GoesOn => 0,
-        Ending::Allows => 0,
-        Ending::Errs => last as u64,
-        Ending::Stops => 0,
-    }
-}
-
-fn gives_allow(ending: Ending) -> bool
-    ensures { λ r. ⌜ r ≡ isAllows ending ⌝ }
-{
-    match ending {
-        Ending::GoesOn => false,
-        Ending::Allows => true,
-        Ending::Errs => false,
-        Ending::Stops => false,
-    }
-}
-
-// The answer of a walk that ended so at the rule `last`, the controls from their parts. The transaction had no allow and no
-// intervention.
-fn ended(
-    ending: Ending,
-    last: usize,
-    visits: usize,
-    ids: usize,
-    entries: usize,
-    stop: OptionIntervention,
-    h: Held,
-    starts: [u64; 256],
-    ends: [u64; 256],
-    phases: [u64; 64],
-    positions: [u64; 64],
-) -> Phase
-    ensures { λ r. ⌜ r ≡ endedBy ending last visits ids entries stop (structOf h starts ends phases positions) ⌝ }
-{
-    let answer = answer_of(ending);
-    let error = error_of(ending, last);
-    let allowed = gives_allow(ending);
-    let settings = h.settings;
-    let controls = Controls {
-        settings,
-        starts,
-        ends,
-        ranges: h.ranges,
-        phases,
-        positions,
-        targets: h.targets,
-    };
-    Phase {
-        answer,
-        error,
-        visits,
-        transaction: Transaction {
-            controls,
-            allowed,
-            intervention: stop,
-            ids,
-            entries,
-        },
-    }
 }
 
 // The walk from the first rule on, where nothing stands against it. The controls' arrays are locals, lent where they are read
@@ -212,7 +74,7 @@ fn walk_rules(
         Walked (callOf phase mode status (now (rules .entry)) (now (actions .entry)) (now (markers .entry)) (now (text .entry)) (now (outcomes .entry)) t (now (ids .entry)) (now (entries .entry)) (now (journal .entry)))
         t (now (ids .entry)) (now (entries .entry)) (now (journal .entry)) r (now (ids .exit)) (now (entries .exit)) (now (journal .exit))) ⌝ }
 {
-    let ruleset_mode = mode_numbered(mode);
+    let ruleset_mode = held::mode_numbered(mode);
     let n = rules.len() / 5;
     let mut starts = held.starts;
     let mut ends = held.ends;
@@ -277,11 +139,11 @@ fn walk_rules(
             &mut phases,
             &mut positions,
         );
-        let end = turn_end(v, u, ruleset_mode, h);
+        let end = ending::turn_end(v, u, ruleset_mode, h);
         if end.last {
             let ending = end.ending;
             let stop = intervention::stopped(ending, members, rules, actions, phase, status);
-            return ended(
+            return ending::ended(
                 ending,
                 s.next,
                 visits,
@@ -301,7 +163,7 @@ fn walk_rules(
             first: v.after.first,
         };
     }
-    ended(
+    ending::ended(
         Ending::GoesOn,
         0,
         visits,
@@ -326,32 +188,6 @@ fn as_lent(answer: u64, t: Transaction) -> Phase
         visits: 0,
         transaction: t,
     }
-}
-
-// Whether an intervention is held.
-fn is_stopped(intervention: OptionIntervention) -> bool
-    ensures { λ r. ⌜ r ≡ isStopped intervention ⌝ }
-{
-    match intervention {
-        OptionIntervention::None => false,
-        OptionIntervention::Some(_) => true,
-    }
-}
-
-// Nothing is done if already allowed or stopped, if the mode is Off, or if there are no rules.
-fn is_idle(allowed: bool, stopped: bool, mode: RuleEngineMode, rules: usize) -> bool
-    ensures { λ r. ⌜ r ≡ (allowed || stopped || isOff mode || eqb rules 0) ⌝ }
-{
-    if allowed {
-        return true;
-    }
-    if stopped {
-        return true;
-    }
-    if intervention::is_off(mode) {
-        return true;
-    }
-    rules == 0
 }
 
 // The phase call. Refusals first, in their order; a refused call leaves everything as it was lent. Ids and data entries are
@@ -408,10 +244,11 @@ pub fn run_phase(
     }
     let settings = t.controls.settings;
     let held = t.intervention;
-    if is_idle(
+    if ending::is_idle(
         t.allowed,
-        is_stopped(held),
-        mode_under(mode_numbered(mode), settings),
+        held,
+        held::mode_numbered(mode),
+        settings,
         rules.len() / 5,
     ) {
         return as_lent(0, t);

@@ -58,7 +58,7 @@ abbrev coded-then : tie.After-too-many-targets → tie.After-digest
 coded-then c = coded (past-eight c .before)
 
 abbrev past-nine : tie.After-is-idle → tie.Else3
-past-nine c = c .before .before .before .before .before
+past-nine c = c .before .before .before
 
 abbrev given-first : tie.After-first-refusal → Given
 given-first c = given (c .before .before .before .before .before .before .before .before .before)
@@ -123,11 +123,8 @@ passed c =
 
 idle : (c : tie.After-is-idle) → nothingToDo (callAt (given-idle c)) ≡ c .is-idle .result
 idle c =
-    let s = c .before .before .before .is-stopped in
-    let n = c .before .before .mode-numbered in
-    let m = c .before .mode-under in
-    idle-is (given-idle c) (s .result) (n .result) (m .result) (c .is-idle .result)
-    (s .ensures) (n .ensures) (m .ensures) (c .is-idle .ensures)
+    let n = c .before .mode-numbered in
+    idle-is (given-idle c) (n .result) (c .is-idle .result) (n .ensures) (c .is-idle .ensures)
 
 returns : tie.Need-returns
 returns c =
@@ -191,14 +188,8 @@ returns-3 c =
     ran-ninth (given-coded p) 9 (c .as-lent3 .result) (c .as-lent3 .ensures) refl (zero (past-seven p))
     (not-eight (past-eight (b .before))) (nine (b .before) ∙ b .if3 .taken)
 
-is-stopped-requires : tie.Need-is-stopped-requires
-is-stopped-requires c κs = search needs
-
 mode-numbered-requires : tie.Need-mode-numbered-requires
 mode-numbered-requires c κs = search needs
-
-mode-under-requires : tie.Need-mode-under-requires
-mode-under-requires c κs = search needs
 
 is-idle-requires : tie.Need-is-idle-requires
 is-idle-requires c κs = search needs
@@ -272,9 +263,7 @@ run-phase-spec =
     too-many-targets-requires
     as-lent-requires-3
     returns-3
-    is-stopped-requires
     mode-numbered-requires
-    mode-under-requires
     is-idle-requires
     as-lent-requires-4
     returns-4

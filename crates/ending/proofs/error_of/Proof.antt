@@ -1,7 +1,7 @@
--- `transaction::answer_of` meets its contract.
+-- `ending::error_of` meets its contract.
 use borrow.Author.Needs.{needs}
-use Rattle.transaction.proofs.answer_of.Statement.{statement}
-use Rattle.transaction.proofs.answer_of.Tie as tie
+use Rattle.ending.proofs.error_of.Statement.{statement}
+use Rattle.ending.proofs.error_of.Tie as tie
 
 enum-told : tie.Need-enum-told
 enum-told c = search needs
@@ -27,7 +27,7 @@ returns-3 c = search needs
 returns-4 : tie.Need-returns-4
 returns-4 c = search needs
 
-pub answer-of-spec : {M : Type 1} → statement M
-answer-of-spec =
+pub error-of-spec : {M : Type 1} → statement M
+error-of-spec =
     tie.close
     (tie.spec enum-told enum-told-2 enum-told-3 enum-told-4 returns returns-2 returns-3 returns-4)

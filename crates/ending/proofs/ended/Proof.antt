@@ -1,7 +1,7 @@
--- `transaction::ended` meets its contract.
+-- `ending::ended` meets its contract.
 use borrow.Author.Needs.{needs}
-use Rattle.transaction.proofs.ended.Statement.{statement}
-use Rattle.transaction.proofs.ended.Tie as tie
+use Rattle.ending.proofs.ended.Statement.{statement}
+use Rattle.ending.proofs.ended.Tie as tie
 
 answer-of-requires : tie.Need-answer-of-requires
 answer-of-requires c κs = search needs

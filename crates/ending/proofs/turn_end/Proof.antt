@@ -1,4 +1,4 @@
--- `transaction::turn_end` meets its contract.
+-- `ending::turn_end` meets its contract.
 use mathlib.Core.Path.{_∙_, ap}
 use mathlib.Core.Bool.{not, _||_}
 use Rattle.reading.specs.declared.RuleEngineMode.{RuleEngineMode}
@@ -6,8 +6,8 @@ use Rattle.reading.specs.Controls.{isOff}
 use Rattle.intervention.specs.Ends.{endBy}
 use Rattle.phase.specs.Walked.{isGoing}
 use borrow.Author.Needs.{needs}
-use Rattle.transaction.proofs.turn_end.Statement.{statement}
-use Rattle.transaction.proofs.turn_end.Tie as tie
+use Rattle.ending.proofs.turn_end.Statement.{statement}
+use Rattle.ending.proofs.turn_end.Tie as tie
 
 mode-under-requires : tie.Need-mode-under-requires
 mode-under-requires c κs = search needs

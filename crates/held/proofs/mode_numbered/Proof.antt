@@ -1,7 +1,7 @@
--- `transaction::mode_numbered` meets its contract.
+-- `held::mode_numbered` meets its contract.
 use borrow.Author.Tests.{eq-eqb, ne-eqb}
-use Rattle.transaction.proofs.mode_numbered.Statement.{statement}
-use Rattle.transaction.proofs.mode_numbered.Tie as tie
+use Rattle.held.proofs.mode_numbered.Statement.{statement}
+use Rattle.held.proofs.mode_numbered.Tie as tie
 
 returns : tie.Need-returns
 returns c = rw (eq-eqb (c .before .args .mode) 0 (c .if1 .taken))

@@ -1,0 +1,170 @@
+// How a visit ends the walk, what the call answers then, and where a call has nothing to do.
+use coded::Held;
+use control::Controls;
+use control::Settings;
+use intervention::Ending;
+use phase::Phase;
+use phase::Transaction;
+use reading::OptionIntervention;
+use reading::RuleEngineMode;
+use unit::Closed;
+use visit::Visited;
+ghost use mathlib.Core.Path.{_≡_};
+ghost use mathlib.Core.Bool.{_||_, not, cond};
+ghost use lib.Dec.{eqb};
+ghost use Rattle.reading.specs.Controls.{isOff, modeOr};
+ghost use Rattle.reading.specs.Walk.{isStopped};
+ghost use Rattle.coded.specs.Lent.{structOf};
+ghost use Rattle.intervention.specs.Ends.{endBy};
+ghost use Rattle.phase.specs.Walked.{isGoing, isErrs, isAllows, endedBy};
+
+// The mode under the settings.
+fn mode_under(ruleset_mode: RuleEngineMode, settings: Settings) -> RuleEngineMode
+    ensures { λ r. ⌜ r ≡ modeOr «ruleset_mode» (settings .mode) ⌝ }
+{
+    let setting = settings.mode;
+    held::mode_or(ruleset_mode, setting)
+}
+
+// Whether a visit is the last: it ended the phase, or the mode is Off behind it.
+fn is_last(ending: Ending, mode: RuleEngineMode) -> bool
+    ensures { λ r. ⌜ r ≡ (not (isGoing ending) || isOff mode) ⌝ }
+{
+    match ending {
+        Ending::GoesOn => intervention::is_off(mode),
+        Ending::Allows => true,
+        Ending::Errs => true,
+        Ending::Stops => true,
+    }
+}
+
+// How a visit leaves the phase, and whether it is the last.
+pub struct TurnEnd {
+    pub ending: Ending,
+    pub last: bool,
+}
+
+// The end of a turn, by what was found, what the unit gave, and the mode behind the unit's controls.
+pub fn turn_end(v: Visited, u: Closed, ruleset_mode: RuleEngineMode, h: Held) -> TurnEnd
+    ensures { λ r. ⌜ r .ending ≡ endBy (v .verdict) (u .disruptive) (modeOr «ruleset_mode» (h .settings .mode)) ⌝ }
+    ensures { λ r. ⌜ r .last ≡ (not (isGoing (r .ending)) || isOff (modeOr «ruleset_mode» (h .settings .mode))) ⌝ }
+{
+    let found = v.verdict;
+    let disruptive = u.disruptive;
+    let settings = h.settings;
+    let now = mode_under(ruleset_mode, settings);
+    let ending = intervention::end_of(found, disruptive, now);
+    let last = is_last(ending, now);
+    TurnEnd { ending, last }
+}
+
+// 10 after an error, else 0.
+fn answer_of(ending: Ending) -> u64
+    ensures { λ r. ⌜ r ≡ cond (isErrs ending) 10 0 ⌝ }
+{
+    match ending {
+        Ending::GoesOn => 0,
+        Ending::Allows => 0,
+        Ending::Errs => 10,
+        Ending::Stops => 0,
+    }
+}
+
+// The index of the rule that had an error, else 0.
+fn error_of(ending: Ending, last: usize) -> u64
+    ensures { λ r. ⌜ r ≡ cond (isErrs ending) last 0 ⌝ }
+{
+    match ending {
+        Ending::GoesOn => 0,
+        Ending::Allows => 0,
+        Ending::Errs => last as u64,
+        Ending::Stops => 0,
+    }
+}
+
+fn gives_allow(ending: Ending) -> bool
+    ensures { λ r. ⌜ r ≡ isAllows ending ⌝ }
+{
+    match ending {
+        Ending::GoesOn => false,
+        Ending::Allows => true,
+        Ending::Errs => false,
+        Ending::Stops => false,
+    }
+}
+
+// The answer of a walk that ended so at the rule `last`, the controls from their parts. The transaction had no allow and no
+// intervention.
+pub fn ended(
+    ending: Ending,
+    last: usize,
+    visits: usize,
+    ids: usize,
+    entries: usize,
+    stop: OptionIntervention,
+    h: Held,
+    starts: [u64; 256],
+    ends: [u64; 256],
+    phases: [u64; 64],
+    positions: [u64; 64],
+) -> Phase
+    ensures { λ r. ⌜ r ≡ endedBy ending last visits ids entries stop (structOf h starts ends phases positions) ⌝ }
+{
+    let answer = answer_of(ending);
+    let error = error_of(ending, last);
+    let allowed = gives_allow(ending);
+    let settings = h.settings;
+    let controls = Controls {
+        settings,
+        starts,
+        ends,
+        ranges: h.ranges,
+        phases,
+        positions,
+        targets: h.targets,
+    };
+    Phase {
+        answer,
+        error,
+        visits,
+        transaction: Transaction {
+            controls,
+            allowed,
+            intervention: stop,
+            ids,
+            entries,
+        },
+    }
+}
+
+// Whether an intervention is held.
+fn is_stopped(intervention: OptionIntervention) -> bool
+    ensures { λ r. ⌜ r ≡ isStopped intervention ⌝ }
+{
+    match intervention {
+        OptionIntervention::None => false,
+        OptionIntervention::Some(_) => true,
+    }
+}
+
+// Nothing is done if already allowed or stopped, if the mode is Off, or if there are no rules.
+pub fn is_idle(
+    allowed: bool,
+    stop: OptionIntervention,
+    ruleset_mode: RuleEngineMode,
+    settings: Settings,
+    rules: usize,
+) -> bool
+    ensures { λ r. ⌜ r ≡ (allowed || isStopped stop || isOff (modeOr «ruleset_mode» (settings .mode)) || eqb rules 0) ⌝ }
+{
+    if allowed {
+        return true;
+    }
+    if is_stopped(stop) {
+        return true;
+    }
+    if intervention::is_off(mode_under(ruleset_mode, settings)) {
+        return true;
+    }
+    rules == 0
+}
