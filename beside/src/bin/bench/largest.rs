@@ -8,7 +8,7 @@ use crate::gateway::Gateway;
 const RULES: usize = 512;
 const ACTIONS: usize = 4_096;
 const BYTES: usize = 65_536;
-const ROUNDS: usize = 3;
+const ROUNDS: usize = 5;
 
 /// A text, and where the directives' names and values stand in it.
 struct Directives {

@@ -22,9 +22,10 @@ use std::{env, thread};
 
 use cases::Measured;
 use gateway::{Gateway, Results};
-use times::BLOCKS;
+use times::{Times, BLOCKS};
 
 const SMALL_STACK: usize = 256 * 1024;
+const PASSES: usize = 5;
 
 const PLOT: &str = concat!(env!("CARGO_MANIFEST_DIR"), "/../target/bench.svg");
 
@@ -50,17 +51,28 @@ fn main() -> ExitCode {
     ExitCode::from(u8::from(check && missed > 0))
 }
 
-/// Times all cases, prints, and gives the number of ratios below their bound.
+/// Times all cases, prints, and gives the number of ratios below their bound. The cases are gone through several times, because
+/// a computer that others use too is slow for seconds on end.
 fn beside_the_rust(cases: &[Measured]) -> usize {
-    println!("Times are of one call, in the fastest of {BLOCKS} blocks; the sides take turns. The transaction of each call, ours");
-    println!("and the Rust's, is made before the clock is read. The Rust's time has the evaluation of the rules in it, which the");
-    println!("proved call is given. `bare`: the Rust with no variable at its missed rules, which is the least that evaluation");
+    println!("Times are of one call, in the fastest of {PASSES} passes of {BLOCKS} blocks; the sides take turns. The transaction of each");
+    println!("call, ours and the Rust's, is made before the clock is read. The Rust's time has the evaluation of the rules in it, which");
+    println!("the proved call is given. `bare`: the Rust with no variable at its missed rules, which is the least that evaluation");
     println!("costs; the ratios are to rules as the oracle has them. `scan`: whether each id lies in a held range, nothing else.");
-    cases.iter().map(print_one).filter(|&met| !met).count()
+    let pass = || cases.iter().map(|measured| times::of(&measured.case));
+    let mut fastest: Vec<Times> = pass().collect();
+    for _ in 1..PASSES {
+        for (best, times) in fastest.iter_mut().zip(pass()) {
+            *best = best.faster(&times);
+        }
+    }
+    let met = cases
+        .iter()
+        .zip(&fastest)
+        .map(|(measured, times)| print_one(measured, times));
+    met.filter(|&met| !met).count()
 }
 
-fn print_one(measured: &Measured) -> bool {
-    let times = times::of(&measured.case);
+fn print_one(measured: &Measured, times: &Times) -> bool {
     let (ratio, bound) = (times.ratio(), measured.bound);
     println!("{}", measured.what);
     println!(

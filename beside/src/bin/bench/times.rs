@@ -29,6 +29,16 @@ impl Times {
     pub fn ratio(&self) -> f64 {
         self.rust / self.ours
     }
+
+    /// The faster of two passes, side by side.
+    pub fn faster(&self, other: &Self) -> Self {
+        Self {
+            ours: self.ours.min(other.ours),
+            rust: self.rust.min(other.rust),
+            bare: self.bare.min(other.bare),
+            scan: self.scan.min(other.scan),
+        }
+    }
 }
 
 /// Compares the sides of a case and then times them.
