@@ -20,6 +20,9 @@ library() (
   sum=$(library_sum | sha256sum) || exit 1
   stored=target/staticlib/lib$1
   if [ ! -f "$stored.a" ] || [ "$sum" != "$(cat "$stored.sum" 2> /dev/null)" ]; then
+    # What it depends on is proved first, several crates at a time; `rt staticlib` would prove one after the other.
+    # shellcheck disable=SC2046
+    quietly rt check $(sed -n "s/^$1: //p" crates.txt)
     quietly rt staticlib "$1"
     printf '%s\n' "$sum" > "$stored.sum"
   fi
