@@ -1,6 +1,8 @@
 //! The largest legal calls: 512 rules that all point at 4,096 ctl actions over 65,536 bytes of text.
 
 use beside::case::{kind, outcome, Call, Case};
+use beside::rust;
+use oracle::{Missed, Timed};
 use tivembo::{Action, Part, Rule};
 
 use crate::gateway::Gateway;
@@ -15,6 +17,27 @@ struct Directives {
     name: String,
     text: Vec<u8>,
     parts: Vec<[Part; 2]>,
+}
+
+/// The Rust on the calls whose actions have 16 bytes each, and the ratios. It is given every rule's actions of its own, two million
+/// in all, read before the clock is; where the values overlap these would fill 130 gigabytes.
+pub fn print_beside() {
+    println!("The largest legal calls with 16 bytes an action, beside the Rust, which has read the directives when it loads the rules:");
+    print_ratio("largest-missed", outcome::MISSED);
+    print_ratio("largest-matched", outcome::MATCHED_VARIABLE);
+}
+
+fn print_ratio(name: &str, outcome: u8) {
+    let case = case(&settings(), outcome);
+    let mut gateway = Gateway::new(&case);
+    let timed = Timed::new(&rust::case(&case), Missed::WithVariable);
+    let (mut ours, mut rust) = (f64::MAX, f64::MAX);
+    for _ in 0..ROUNDS {
+        ours = ours.min(gateway.time(1).as_nanos() as f64);
+        rust = rust.min(timed.time(1).as_nanos() as f64);
+    }
+    println!("  {ours:.0} ns ours, {rust:.0} ns the Rust");
+    println!("ratio {name} {:.1}", rust / ours);
 }
 
 /// Times all, prints, and gives the number of calls that take a second or more.
