@@ -5,12 +5,14 @@ use beside::rust;
 use oracle::{Missed, Timed};
 use tivembo::{Action, Part, Rule};
 
+use crate::check::check;
 use crate::gateway::Gateway;
 
 const RULES: usize = 512;
 const ACTIONS: usize = 4_096;
 const BYTES: usize = 65_536;
 const ROUNDS: usize = 5;
+const BOUND: f64 = 10.0;
 
 /// A text, and where the directives' names and values stand in it.
 struct Directives {
@@ -21,14 +23,15 @@ struct Directives {
 
 /// The Rust on the calls whose actions have 16 bytes each, and the ratios. It is given every rule's actions of its own, two million
 /// in all, read before the clock is; where the values overlap these would fill 130 gigabytes.
-pub fn print_beside() {
+pub fn print_beside() -> usize {
     println!("The largest legal calls with 16 bytes an action, beside the Rust, which has read the directives when it loads the rules:");
-    print_ratio("largest-missed", outcome::MISSED);
-    print_ratio("largest-matched", outcome::MATCHED_VARIABLE);
+    let missed = print_ratio("largest-missed", outcome::MISSED);
+    missed + print_ratio("largest-matched", outcome::MATCHED_VARIABLE)
 }
 
-fn print_ratio(name: &str, outcome: u8) {
+fn print_ratio(name: &str, outcome: u8) -> usize {
     let case = case(&settings(), outcome);
+    check(&case);
     let mut gateway = Gateway::new(&case);
     let timed = Timed::new(&rust::case(&case), Missed::WithVariable);
     let (mut ours, mut rust) = (f64::MAX, f64::MAX);
@@ -37,7 +40,12 @@ fn print_ratio(name: &str, outcome: u8) {
         rust = rust.min(timed.time(1).as_nanos() as f64);
     }
     println!("  {ours:.0} ns ours, {rust:.0} ns the Rust");
-    println!("ratio {name} {:.1}", rust / ours);
+    let ratio = rust / ours;
+    println!("ratio {name} {ratio:.1}");
+    if ratio < BOUND {
+        println!("  MISSED: {ratio:.2}, the bound is {BOUND}");
+    }
+    usize::from(ratio < BOUND)
 }
 
 /// Times all, prints, and gives the number of calls that take a second or more.

@@ -46,7 +46,7 @@ fn main() -> ExitCode {
         return ExitCode::from(2);
     }
     missed += largest::print();
-    largest::print_beside();
+    missed += largest::print_beside();
     missed += on_a_small_stack(&cases);
     println!("{missed} of the bounds missed");
     ExitCode::from(u8::from(check && missed > 0))
