@@ -1,5 +1,6 @@
-//! The records that are lent: `#[repr(C)]` structs of 64-bit numbers, as [crates/records](../../crates/records/src/lib.rt)
-//! and crates/reading declare them. A record may hold any numbers at all; a call refuses what 01 does not know.
+//! The records that are lent: `#[repr(C)]` structs of 64-bit numbers, as [crates/records](../../crates/records/src/lib.rt),
+//! the crates of its parts and crates/reading declare them. A record may hold any numbers at all; a call refuses what 01 does
+//! not know.
 
 /// How many removed id ranges a transaction can hold.
 pub const MOST_RANGES: usize = 256;

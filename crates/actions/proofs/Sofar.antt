@@ -14,7 +14,7 @@ use Rattle.reading.specs.Records.{actionList}
 use Rattle.actions.specs.declared.RuleActions.{RuleActions}
 use Rattle.actions.specs.Executed.{positionsOf, Executed}
 use Rattle.actions.specs.Slots.{slotOf, placedAt, marked, markedMetadata}
-use Rattle.text.proofs.RecordLaws.{length-actions, action-is}
+use Rattle.lists.proofs.RecordLaws.{length-actions, action-is}
 use Rattle.actions.proofs.PlacedLaws.{upTo, up-to-none, up-to-more, up-to-end, controls-more}
 use Rattle.actions.proofs.MarkLaws.{Marks, marks-none, marks-more, marks-disruptive, marks-flow, marks-metadata}
 use Rattle.actions.proofs.ControlLaws.{fitting, length-fitting, fitting-none, fitting-more}

@@ -1,11 +1,9 @@
 // What a rule's actions come to (`execute_actions`). The actions are lent as one flat list of
 // numbers, six to an action.
-use reading::Action;
 use reading::DisruptiveOutcome;
 use reading::FlowOutcome;
 use reading::OptionPlace;
 use reading::OptionU64;
-use reading::Part;
 use reading::Place;
 use reading::Rule;
 use reading::RuleMetadata;
@@ -13,42 +11,11 @@ ghost use Prim.Native.Nat.{_+_, _-_, _≤_, min};
 ghost use mathlib.Core.Path.{_≡_};
 ghost use mathlib.Core.Bool.{cond};
 ghost use lib.Dec.{eqb};
-ghost use lib.ListN.{getD, set};
+ghost use lib.ListN.{set};
 ghost use Rattle.reading.specs.Actions.{actionsOf, disruptiveBy, flowBy, numberIn};
 ghost use Rattle.reading.specs.Records.{actionList};
-ghost use Rattle.reading.specs.Walk.{noAction};
 ghost use Rattle.actions.specs.Executed.{Executed};
 ghost use Rattle.actions.specs.Slots.{slotOf, marked, markedPlace, markedMetadata};
-
-// The action at an index, all zeros where there is none.
-pub fn action_at(actions: &[u64], index: usize) -> Action
-    ensures { λ r. ⌜ r ≡ getD (actionList (now (actions .entry))) index noAction ⌝ }
-{
-    if actions.len() / 6 <= index {
-        let none = Part { start: 0, len: 0 };
-        return Action {
-            kind: 0,
-            number: 0,
-            text: none,
-            value: none,
-        };
-    }
-    let at = 6 * index;
-    let text = Part {
-        start: actions[at + 2],
-        len: actions[at + 3],
-    };
-    let value = Part {
-        start: actions[at + 4],
-        len: actions[at + 5],
-    };
-    Action {
-        kind: actions[at],
-        number: actions[at + 1],
-        text,
-        value,
-    }
-}
 
 // The slot that keeps the last action of a kind: one for all disruptive kinds, one for all flow
 // kinds, one for each kind of metadata. What slot 0 keeps is never read.
@@ -115,7 +82,7 @@ fn disruptive_at(actions: &[u64], mark: u64) -> DisruptiveOutcome
         return DisruptiveOutcome::Nothing;
     }
     let position = mark - 1;
-    let kind = action_at(actions, position as usize).kind;
+    let kind = action_record::action_at(actions, position as usize).kind;
     if kind == 1 {
         return DisruptiveOutcome::Deny;
     }
@@ -142,7 +109,7 @@ fn flow_at(actions: &[u64], mark: u64) -> FlowOutcome
         return FlowOutcome::Continue;
     }
     let position = mark - 1;
-    let a = action_at(actions, position as usize);
+    let a = action_record::action_at(actions, position as usize);
     let kind = a.kind;
     if kind == 7 {
         return FlowOutcome::Chain;
@@ -163,7 +130,7 @@ fn number_at(actions: &[u64], mark: u64) -> OptionU64
     if mark == 0 {
         return OptionU64::None;
     }
-    let a = action_at(actions, (mark - 1) as usize);
+    let a = action_record::action_at(actions, (mark - 1) as usize);
     OptionU64::Some(a.number)
 }
 

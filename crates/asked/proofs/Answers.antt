@@ -11,8 +11,8 @@ use Rattle.control.specs.Held.{controlsOf}
 use Rattle.control.proofs.HeldLaws.{beyond}
 use Rattle.questions.specs.Answered.{Answered}
 use Rattle.numbered.specs.declared.HostControls.{HostControls}
-use Rattle.numbered.specs.declared.HostPlace.{HostPlace}
-use Rattle.numbered.specs.Parts.{hostPlace}
+use Rattle.numbers.specs.declared.HostPlace.{HostPlace}
+use Rattle.numbers.specs.Parts.{hostPlace}
 use Rattle.numbered.specs.Controls.{knownControls, controlsFromHost}
 use Rattle.asked.specs.Asked.{controlsIn, refusalIn, answered, hostTarget}
 

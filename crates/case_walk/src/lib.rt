@@ -209,7 +209,7 @@ fn write_actions(s: &[u8], actions: &[u64], link: u64, first: usize, end: usize)
     let mut c = link_column(link);
     let mut k = first;
     while k < end {
-        c = add_action(c, s, actions::action_at(actions, k));
+        c = add_action(c, s, action_record::action_at(actions, k));
         k += 1;
     }
     close(c.left);

@@ -43,9 +43,10 @@ use Rattle.reading.specs.Call.{Call, noRule, ruleAt, actionsAt}
 use Rattle.reading.specs.Units.{actionControls, ruleControls, unitControls}
 use Rattle.reading.specs.Walk.{noAction}
 use Rattle.digest.specs.Codes.{codeOf, codeAt, codesOf}
-use Rattle.coded.specs.Coded.{Source, appliedCode, appliedCodes, ruleCoded, unitCoded, ruleChanges, unitChanges}
+use Rattle.changes.specs.Changes.{ruleChanges, unitChanges}
+use Rattle.changes.proofs.CodeLaws.{isChange}
+use Rattle.coded.specs.Coded.{Source, appliedCode, appliedCodes, ruleCoded, unitCoded}
 use Rattle.coded.proofs.StepLaws.{Grown, grown-same, grown-then}
-use Rattle.coded.proofs.RuleLaws.{isChange}
 
 -- A CODE OF 0
 

@@ -20,10 +20,11 @@ use Rattle.reading.specs.Controls.{addTargetAnswer, addRangesAnswer}
 use Rattle.control.specs.declared.Settings.{Settings}
 use Rattle.control.specs.declared.Controls as held
 use Rattle.control.specs.Held.{controlsOf}
-use Rattle.coded.specs.declared.Held.{Held}
+use Rattle.setting.specs.Setting.{modeSet, accessSet, processorSet, settingsAfter}
+use Rattle.adding.specs.declared.Held.{Held}
 use Rattle.coded.specs.Coded.{settingCoded, appliedCode}
-use Rattle.coded.specs.Lent.{structOf, Whole, Turned}
-use Rattle.coded.specs.Steps.{modeSet, accessSet, processorSet, settingsAfter, withSettings, TargetAdded, RangesAdded}
+use Rattle.adding.specs.Lent.{structOf, TargetAdded, RangesAdded}
+use Rattle.coded.specs.Lent.{Whole, Turned}
 
 -- the first of two controls has no more ranges and no more targets than the second
 pub record Grown (a b : Controls) : Type 0 where
@@ -36,22 +37,10 @@ grown-same a = record { ranges = omega arith; targets = omega arith }
 pub grown-then : (a b c : Controls) → Grown a b → Grown b c → Grown a c
 grown-then a b c p q = record { ranges = omega arith; targets = omega arith }
 
--- the settings of a code that sets none
-pub settings-left : (code : ℕ) (s : Settings) → (code ≡ 1 → ⊥) → (code ≡ 2 → ⊥) → (code ≡ 3 → ⊥) → (code ≡ 4 → ⊥) → (code ≡ 5 → ⊥)
-    → (code ≡ 6 → ⊥) → (code ≡ 7 → ⊥) → (code ≡ 8 → ⊥) → (code ≡ 9 → ⊥) → settingsAfter code s ≡ s
-unfolding settingsAfter
-settings-left code s a b c d e f g h i =
-    rw (
-      ne-eqb code 1 a,
-      ne-eqb code 2 b,
-      ne-eqb code 3 c,
-      ne-eqb code 4 d,
-      ne-eqb code 5 e,
-      ne-eqb code 6 f,
-      ne-eqb code 7 g,
-      ne-eqb code 8 h,
-      ne-eqb code 9 i,
-    )
+-- the controls with other settings
+abbrev withSettings : Controls → Settings → Controls
+withSettings c s = record
+    { mode = s .mode; ranges = c .ranges; targets = c .targets; access = s .access; processor = s .processor }
 
 module _ (at : Place) (value : List ℕ) (code : ℕ) (x : Controls) (s : Settings) where
   -- a code that adds nothing

@@ -1,6 +1,6 @@
 -- What a closed unit's actions do to the controls, by their codes.
 use Prim.Native.Nat.{ℕ, suc}
-use mathlib.Core.Bool.{Bool, not, cond}
+use mathlib.Core.Bool.{cond}
 use mathlib.Core.List.{List, [], _∷_}
 use lib.ListN.{take, drop, getD}
 use lib.Dec.{leb, eqb}
@@ -10,7 +10,6 @@ use Rattle.reading.specs.declared.Place.{Place}
 use Rattle.reading.specs.declared.RuleEngineMode.{RuleEngineMode}
 use Rattle.reading.specs.declared.BodyAccess.{BodyAccess}
 use Rattle.reading.specs.declared.BodyProcessor.{BodyProcessor}
-use Rattle.reading.specs.Lists.{any}
 use Rattle.reading.specs.Text.{partOf, trim}
 use Rattle.reading.specs.Directive.{removalValue, rangesOf}
 use Rattle.reading.specs.Controls.{Controls, withMode, withAccess, withProcessor, withTarget, withAllRanges}
@@ -57,10 +56,3 @@ ruleCoded s codes r c = appliedCodes s (r .first) (take (r .count) (drop (r .fir
 abbrev pub unitCoded : Source → List ℕ → List Rule → List ℕ → Controls → Controls
 unitCoded s codes rules [] c = c
 unitCoded s codes rules (m ∷ ms) c = unitCoded s codes rules ms (ruleCoded s codes (getD rules m noRule) c)
-
--- whether a rule has an action that changes the controls
-unfoldable pub ruleChanges : List ℕ → Rule → Bool
-ruleChanges codes r = any (λ code. not (eqb code 0)) (take (r .count) (drop (r .first) codes))
-
-abbrev pub unitChanges : List ℕ → List Rule → List ℕ → Bool
-unitChanges codes rules members = any (λ m. ruleChanges codes (getD rules m noRule)) members

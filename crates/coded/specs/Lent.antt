@@ -1,24 +1,12 @@
--- The controls in parts: their settings and counts by value, and their four arrays lent, so that a change copies none of them.
+-- What a change of controls leaves whose four arrays are lent.
 use Prim.Native.Nat.{ℕ}
 use mathlib.Core.Path.{_≡_}
 use mathlib.Core.List.{List}
 use lib.ListN.{length}
 use Rattle.reading.specs.Controls as reading
-use Rattle.control.specs.declared.Controls.{Controls}
 use Rattle.control.specs.Held.{Became}
-use Rattle.coded.specs.declared.Held.{Held}
-
--- the struct that the parts make up
-abbrev pub structOf : Held → List ℕ → List ℕ → List ℕ → List ℕ → Controls
-structOf h starts ends phases positions = record {
-  settings = h .settings;
-  starts = starts;
-  ends = ends;
-  ranges = h .ranges;
-  phases = phases;
-  positions = positions;
-  targets = h .targets;
-}
+use Rattle.adding.specs.declared.Held.{Held}
+use Rattle.adding.specs.Lent.{structOf}
 
 -- the four lists are as long as the struct's arrays
 pub record Whole (starts ends phases positions : List ℕ) : Type 0 where

@@ -1,26 +1,24 @@
 -- What the struct's tests and stores mean for the controls that it holds. Assumes nothing.
-use Prim.Native.Nat.{ℕ, _+_, _-_, _≤_, _<_}
+use Prim.Native.Nat.{ℕ, _+_, _≤_, _<_}
 use mathlib.Core.Path.{_≡_, refl, sym, ap, _∙_}
 use mathlib.Core.Bool.{Bool, true, false, cond, _||_}
 use mathlib.Core.List.{List, [], _∷_, map, append-nil}
 use native.Mathlib.Omega.{arith}
-use borrow.Author.Tests.{ltb-false, lt-ltb, le-ltb, lt-leb, eq-eqb, ne-eqb}
+use borrow.Author.Tests.{ltb-false, le-ltb, lt-leb, eq-eqb, ne-eqb}
 use lib.Dec.{ltb, leb, eqb}
-use lib.ListN.{length, take, drop, set, length-map}
+use lib.ListN.{length, set, length-map}
 use lib.Seq.{sets, drop-set-lt}
 use Rattle.reading.specs.declared.RuleIdRange.{RuleIdRange}
 use Rattle.reading.specs.declared.Place.{Place}
 use Rattle.reading.specs.Lists.{keep}
-use Rattle.reading.specs.Text.{idParts, rangesIn}
 use Rattle.reading.specs.Directive.{startOf, endOf}
-use Rattle.reading.specs.Controls.{beyondLimits, addRangeAnswer, addRangesAnswer, addTargetAnswer, withRange, withAllRanges, withTarget}
+use Rattle.reading.specs.Controls.{beyondLimits, addRangeAnswer, addTargetAnswer, withRange, withTarget}
 use Rattle.reading.specs.Controls as reading
-use Rattle.ranges.specs.Ranges.{Written}
 use Rattle.control.specs.declared.Controls.{Controls}
 use Rattle.control.specs.declared.Changed.{Changed}
 use Rattle.control.specs.Held.{controlsOf, Added}
 use Rattle.held.proofs.PairLaws.{rangeOf, placeOf, length-pairs}
-use Rattle.control.proofs.RunLaws.{drop-sets, pairs-sets, handed, written-behind}
+use Rattle.control.proofs.RunLaws.{drop-sets, pairs-sets}
 
 pub ranges-length : (c : Controls) → length (controlsOf c .ranges) ≡ c .ranges
 unfolding controlsOf
@@ -73,15 +71,15 @@ target-unchanged m at h = rw (ne-eqb (addTargetAnswer m) 0 h)
 
 -- ranges added together under an answer: none where it is not 0
 module _ (c : Controls) (new : List RuleIdRange) (answer : ℕ) where
-  abbrev after : reading.Controls
+  abbrev pub after : reading.Controls
   after = reading.withRanges (controlsOf c) (reading.addRanges (controlsOf c .ranges) (keep (eqb answer 0) new))
 
-  none-added : (n : ℕ) → answer ≡ n → keep (eqb n 0) new ≡ [] → Added c (record { answer = n; controls = c }) answer after
+  pub none-added : (n : ℕ) → answer ≡ n → keep (eqb n 0) new ≡ [] → Added c (record { answer = n; controls = c }) answer after
   none-added n e h =
       let k : keep (eqb answer 0) new ≡ [] = rw e h in
       handed-back c n answer after e (rw k (ap (reading.withRanges (controlsOf c)) (sym (append-nil (controlsOf c .ranges)))))
 
-  all-added : answer ≡ 0 → c .ranges + length new ≤ length (c .starts) → c .ranges + length new ≤ length (c .ends)
+  pub all-added : answer ≡ 0 → c .ranges + length new ≤ length (c .starts) → c .ranges + length new ≤ length (c .ends)
       → (starts ends : List ℕ) (count : ℕ) → starts ≡ sets (c .starts) (c .ranges) (map startOf new)
       → ends ≡ sets (c .ends) (c .ranges) (map endOf new) → count ≡ c .ranges + length new
       → Added c (grown c starts ends count) answer after
@@ -112,29 +110,9 @@ module _ (c : Controls) (t : Bool) (is : t ≡ (ltb 256 (c .ranges) || ltb 64 (c
   unfolding addTargetAnswer
   target-answer = rw (beyond c, ← is, targets-length c)
 
-  ranges-answer : (rs : List RuleIdRange) → addRangesAnswer (controlsOf c) rs ≡ cond t 3 (cond (ltb 256 (c .ranges + length rs)) 8 0)
-  unfolding addRangesAnswer
-  ranges-answer rs = rw (beyond c, ← is, ranges-length c)
-
   pub range-refused : (r : RuleIdRange) (n : ℕ) → cond t 3 (cond (ltb (r .end) (r .start)) 5 (cond (leb 256 (c .ranges)) 8 0)) ≡ n
       → eqb n 0 ≡ false → Added c (record { answer = n; controls = c }) (addRangeAnswer (controlsOf c) r) (withRange (controlsOf c) r)
   range-refused r n e h = none-added c (r ∷ []) (addRangeAnswer (controlsOf c) r) n (range-answer r ∙ e) (rw h)
-
-  -- the ranges of a directive: to controls beyond their limits, none at all, and more than there are places for
-  pub ranges-beyond : (rs : List RuleIdRange) → t ≡ true
-      → Added c (record { answer = 3; controls = c }) (addRangesAnswer (controlsOf c) rs) (withAllRanges (controlsOf c) rs)
-  ranges-beyond rs e = none-added c rs (addRangesAnswer (controlsOf c) rs) 3 (ranges-answer rs ∙ rw e) refl
-
-  pub ranges-none : (rs : List RuleIdRange) → t ≡ false → rs ≡ []
-      → Added c (record { answer = 0; controls = c }) (addRangesAnswer (controlsOf c) rs) (withAllRanges (controlsOf c) rs)
-  ranges-none rs e q =
-      let h = le-ltb 256 (c .ranges + 0) (omega (arith, within (c .ranges) (c .targets) t is e .0)) in
-      none-added c rs (addRangesAnswer (controlsOf c) rs) 0 (ranges-answer rs ∙ rw (e, q, h)) q
-
-  pub ranges-many : (rs : List RuleIdRange) → t ≡ false → 256 < c .ranges + length rs
-      → Added c (record { answer = 8; controls = c }) (addRangesAnswer (controlsOf c) rs) (withAllRanges (controlsOf c) rs)
-  ranges-many rs e h =
-      none-added c rs (addRangesAnswer (controlsOf c) rs) 8 (ranges-answer rs ∙ rw (e, lt-ltb 256 (c .ranges + length rs) h)) refl
 
   pub target-refused : (at : Place) (n : ℕ) → cond t 3 (cond (leb 64 (c .targets)) 9 0) ≡ n → 0 < n
       → Added c (record { answer = n; controls = c }) (addTargetAnswer (controlsOf c)) (withTarget (controlsOf c) at)
@@ -151,21 +129,6 @@ module _ (c : Controls) (t : Bool) (is : t ≡ (ltb 256 (c .ranges) || ltb 64 (c
       all-added c (r ∷ []) (addRangeAnswer (controlsOf c) r)
       (range-answer r ∙ rw (e, le-ltb (r .end) (r .start) o, lt-leb 256 (c .ranges) h))
       (omega arith) (omega arith) _ _ _ refl refl refl
-
-  -- what `write_ranges` leaves in the parts behind those in use comes back as s and e
-  pub ranges-added : (v s e : List ℕ) (rs : List RuleIdRange) (n : ℕ) → length (c .starts) ≡ 256 → length (c .ends) ≡ 256 → t ≡ false
-      → rs ≡ rangesIn (idParts v) → length rs ≡ n → c .ranges + n ≤ 256
-      → Written v (take (256 - c .ranges) (drop (c .ranges) (c .starts))) (take (256 - c .ranges) (drop (c .ranges) (c .ends))) s e
-      → Added c
-      (grown c (handed (c .starts) (c .ranges) 256 s) (handed (c .ends) (c .ranges) 256 e) (c .ranges + n))
-      (addRangesAnswer (controlsOf c) rs)
-      (withAllRanges (controlsOf c) rs)
-  ranges-added v s e rs n ls le f are counted h w =
-      let fits : c .ranges + length rs ≤ 256 = omega arith in
-      let both = written-behind v (c .starts) (c .ends) (c .ranges) 256 ls le rs are fits s e w in
-      all-added c rs (addRangesAnswer (controlsOf c) rs)
-      (ranges-answer rs ∙ rw (f, le-ltb 256 (c .ranges + length rs) fits))
-      (omega arith) (omega arith) _ _ _ (both .0) (both .1) (omega arith)
 
   pub target-added : (at : Place) → length (c .phases) ≡ 64 → length (c .positions) ≡ 64 → t ≡ false → c .targets < 64
       → Added c

@@ -1,6 +1,5 @@
 // What the `ctl` directives of a transaction have set (`TransactionControls`), held in arrays and
 // handed back by each operation.
-use ranges::RangeCount;
 use reading::AccessSetting;
 use reading::BodyAccess;
 use reading::BodyProcessor;
@@ -11,9 +10,6 @@ use reading::RuleEngineMode;
 use reading::RuleIdRange;
 ghost use mathlib.Core.Path.{_≡_};
 ghost use Rattle.reading.specs.Controls.{withMode, withAccess, withProcessor, withRange, withTarget, addRangeAnswer, addTargetAnswer};
-ghost use Rattle.reading.specs.Controls.{withAllRanges, addRangesAnswer};
-ghost use Rattle.reading.specs.Text.{trim};
-ghost use Rattle.reading.specs.Directive.{removalValue, rangesOf};
 ghost use Rattle.control.specs.Held.{controlsOf, New, Became, Added};
 
 // The mode, the body access and the body processor, each set or not.
@@ -134,45 +130,6 @@ impl Controls {
         self.starts[at] = range.start;
         self.ends[at] = range.end;
         self.ranges = after;
-        Changed {
-            answer: 0,
-            controls: self,
-        }
-    }
-
-    // All ranges of a ruleRemoveById value at the end, or none where they do not fit (refusals 3 and 8).
-    // An unsupported value changes nothing.
-    pub fn remove_ranges(mut self, value: &[u8]) -> Changed
-        ensures { λ r. ⌜ (let rs = rangesOf (removalValue (trim (now (value .entry)))) in
-            Added self r (addRangesAnswer (controlsOf self) rs) (withAllRanges (controlsOf self) rs)) ⌝ }
-    {
-        let used = self.ranges;
-        let targets = self.targets;
-        if held::is_beyond(used, targets) {
-            return Changed {
-                answer: 3,
-                controls: self,
-            };
-        }
-        let v = text::trimmed(value);
-        let RangeCount::Ranges(n) = ranges::count_ranges(v) else {
-            return Changed {
-                answer: 0,
-                controls: self,
-            };
-        };
-        if 256 - used < n {
-            return Changed {
-                answer: 8,
-                controls: self,
-            };
-        }
-        let mut starts = self.starts;
-        let mut ends = self.ends;
-        ranges::write_ranges(v, &mut starts[used..], &mut ends[used..]);
-        self.starts = starts;
-        self.ends = ends;
-        self.ranges = used + n;
         Changed {
             answer: 0,
             controls: self,

@@ -69,7 +69,7 @@ fn code_of(directive: CtlDirective) -> u16
 fn code_at(actions: &[u64], text: &[u8], index: usize) -> u16
     ensures { λ r. ⌜ r ≡ codeAt (now (text .entry)) (getD (actionList (now (actions .entry))) index noAction) ⌝ }
 {
-    let a = actions::action_at(actions, index);
+    let a = action_record::action_at(actions, index);
     if a.kind != 19 {
         return 0;
     }

@@ -12,8 +12,8 @@ use Rattle.reading.specs.Text.{ascii, same, trim, fold, indexOf, holdsByte, cut
 use Rattle.reading.specs.Directive.{Directive, unsupported, ruleRemoveById, ruleRemoveTargetById, engineValue, accessValue}
 use Rattle.reading.specs.Directive.{processorValue, removalValue, targetValue, directiveNamed, directiveOf, isSupported}
 use Rattle.reading.specs.Directive.{withoutLists}
-use Rattle.ranges.specs.declared.RangeCount.{RangeCount}
-use Rattle.ranges.specs.Ranges.{countIn}
+use Rattle.range_count.specs.declared.RangeCount.{RangeCount}
+use Rattle.range_count.specs.Count.{countIn}
 
 -- a removal by its count
 module _ (value lent : List ℕ) where

@@ -1,5 +1,5 @@
 // What a ctl directive says (`CtlDirective::parse`).
-use ranges::RangeCount;
+use range_count::RangeCount;
 use reading::AccessSetting;
 use reading::BodyAccess;
 use reading::BodyProcessor;
@@ -75,7 +75,7 @@ fn rule_engine(value: &[u8]) -> CtlDirective
 fn rule_remove_by_id(value: &[u8]) -> CtlDirective
     ensures { λ r. ⌜ ((lent : List ℕ) → r ≡ withoutLists lent (removalValue (now (value .entry)))) ⌝ }
 {
-    let RangeCount::Ranges(n) = ranges::count_ranges(value) else {
+    let RangeCount::Ranges(n) = range_count::count_ranges(value) else {
         return CtlDirective::Unsupported;
     };
     CtlDirective::RuleRemoveById(n)
@@ -107,12 +107,12 @@ fn is_target(value: &[u8]) -> bool
     if value.len() <= cut {
         return false;
     }
-    let id = text::trimmed(&value[..cut]);
+    let id = trim::trimmed(&value[..cut]);
     if id.len() == 0 {
         return false;
     }
     let from = cut + 1;
-    let target = text::trimmed(&value[from..]);
+    let target = trim::trimmed(&value[from..]);
     0 < target.len()
 }
 
@@ -130,8 +130,8 @@ fn rule_remove_target_by_id(value: &[u8], t: &[u8]) -> CtlDirective
 pub fn parse(name: &[u8], value: &[u8]) -> CtlDirective
     ensures { λ r. ⌜ r ≡ withoutLists (now (value .entry)) (directiveOf (now (name .entry)) (now (value .entry))) ⌝ }
 {
-    let directive = text::trimmed(name);
-    let v = text::trimmed(value);
+    let directive = trim::trimmed(name);
+    let v = trim::trimmed(value);
     if text::folds_to(directive, b"ruleengine") {
         return rule_engine(v);
     }

@@ -140,9 +140,9 @@ fn write_target(value: &[u8], cut: usize) {
         write(b"cut outside");
         return;
     }
-    write_text(text::trimmed(&value[0..cut]));
+    write_text(trim::trimmed(&value[0..cut]));
     write(b" ");
-    write_text(text::trimmed(&value[cut + 1..]));
+    write_text(trim::trimmed(&value[cut + 1..]));
 }
 
 fn write_mode(m: RuleEngineMode) {

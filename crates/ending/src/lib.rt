@@ -1,12 +1,12 @@
 // How a visit ends the walk, what the call answers then, and where a call has nothing to do.
-use coded::Held;
+use adding::Held;
 use control::Controls;
 use control::Settings;
-use intervention::Ending;
 use phase::Phase;
 use phase::Transaction;
 use reading::OptionIntervention;
 use reading::RuleEngineMode;
+use stopping::Ending;
 use unit::Closed;
 use visit::Visited;
 ghost use mathlib.Core.Path.{_≡_};
@@ -14,8 +14,8 @@ ghost use mathlib.Core.Bool.{_||_, not, cond};
 ghost use lib.Dec.{eqb};
 ghost use Rattle.reading.specs.Controls.{isOff, modeOr};
 ghost use Rattle.reading.specs.Walk.{isStopped};
-ghost use Rattle.coded.specs.Lent.{structOf};
-ghost use Rattle.intervention.specs.Ends.{endBy};
+ghost use Rattle.adding.specs.Lent.{structOf};
+ghost use Rattle.stopping.specs.Ends.{endBy};
 ghost use Rattle.phase.specs.Walked.{isGoing, isErrs, isAllows, endedBy};
 
 // The mode under the settings.
@@ -31,7 +31,7 @@ fn is_last(ending: Ending, mode: RuleEngineMode) -> bool
     ensures { λ r. ⌜ r ≡ (not (isGoing ending) || isOff mode) ⌝ }
 {
     match ending {
-        Ending::GoesOn => intervention::is_off(mode),
+        Ending::GoesOn => stopping::is_off(mode),
         Ending::Allows => true,
         Ending::Errs => true,
         Ending::Stops => true,
@@ -53,7 +53,7 @@ pub fn turn_end(v: Visited, u: Closed, ruleset_mode: RuleEngineMode, h: Held) ->
     let disruptive = u.disruptive;
     let settings = h.settings;
     let now = mode_under(ruleset_mode, settings);
-    let ending = intervention::end_of(found, disruptive, now);
+    let ending = stopping::end_of(found, disruptive, now);
     let last = is_last(ending, now);
     TurnEnd { ending, last }
 }
@@ -163,7 +163,7 @@ pub fn is_idle(
     if is_stopped(stop) {
         return true;
     }
-    if intervention::is_off(mode_under(ruleset_mode, settings)) {
+    if stopping::is_off(mode_under(ruleset_mode, settings)) {
         return true;
     }
     rules == 0

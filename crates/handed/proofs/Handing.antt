@@ -15,9 +15,9 @@ use Rattle.reading.specs.Call as reading
 use Rattle.reading.specs.Refusals.{refused1, refused2, refused3, refused4, refused5, refused6, refused7}
 use Rattle.reading.specs.Walk.{Visit}
 use Rattle.reading.specs.Outcome.{Outcome, visitsOf, outcomeOf, transactionAfter}
-use Rattle.text.proofs.RecordLaws.{length-markers}
+use Rattle.lists.proofs.RecordLaws.{length-markers}
 use Rattle.control.specs.Held.{Became}
-use Rattle.control.proofs.Determined.{SameSizes, determined}
+use Rattle.control_laws.proofs.Determined.{SameSizes, determined}
 use Rattle.control.proofs.HeldLaws.{ranges-length, targets-length}
 use Rattle.refusals.specs.declared.Sizes.{Sizes}
 use Rattle.markers.specs.declared.Unpacked.{Unpacked}
@@ -30,7 +30,7 @@ use Rattle.phase.proofs.Promise.{length-data-list, length-journal-list}
 use Rattle.records.specs.declared.HostTransaction.{HostTransaction}
 use Rattle.numbered.specs.Controls.{controlsFromHost, controlsToHost}
 use Rattle.records.specs.Whole.{known, fromHost, toHost}
-use Rattle.numbered.specs.Parts.{flagNumber}
+use Rattle.numbers.specs.Parts.{flagNumber}
 use Rattle.records.proofs.Back.{back, forth}
 use Rattle.words.specs.declared.Answer.{Answer}
 use Rattle.words.specs.Lent.{callLent, phaseOf, lentWords, lentPart}

@@ -12,9 +12,9 @@ use Rattle.phase.specs.Phase.{Ran}
 use Rattle.records.specs.declared.HostTransaction.{HostTransaction}
 use Rattle.reading.specs.declared.OptionIntervention.{OptionIntervention}
 use Rattle.phase.specs.declared.Transaction.{Transaction}
-use Rattle.records.specs.declared.HostIntervention.{HostIntervention}
-use Rattle.numbered.specs.Parts.{flagNumber}
-use Rattle.records.specs.Parts.{hostIntervention}
+use Rattle.stops.specs.declared.HostIntervention.{HostIntervention}
+use Rattle.numbers.specs.Parts.{flagNumber}
+use Rattle.stops.specs.Parts.{hostIntervention}
 use Rattle.numbered.specs.Controls.{controlsToHost}
 use Rattle.records.specs.Whole.{known, fromHost, toHost}
 use Rattle.words.specs.Lent.{phaseOf}

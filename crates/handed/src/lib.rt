@@ -2,9 +2,9 @@
 use markers::Unpacked;
 use phase::Transaction;
 use reading::OptionIntervention;
-use records::HostIntervention;
 use records::HostTransaction;
 use refusals::Sizes;
+use stops::HostIntervention;
 ghost use mathlib.Core.Path.{_≡_};
 ghost use mathlib.Core.List.{[]};
 ghost use lib.Dec.{ltb};
@@ -101,7 +101,7 @@ fn intervention_after(
     if visits == 0 {
         return before;
     }
-    records::host_intervention(after)
+    stops::host_intervention(after)
 }
 
 // The record behind a call. Known numbers are read and written back as they were, so without a visit the record is as it came
@@ -110,7 +110,7 @@ fn written(before: HostIntervention, visits: usize, t: Transaction) -> HostTrans
     ensures { λ r. ⌜ r ≡ writtenOf before visits t ⌝ }
 {
     let controls = numbered::controls_to_host(t.controls);
-    let allowed = numbered::flag_number(t.allowed);
+    let allowed = numbers::flag_number(t.allowed);
     let found = t.intervention;
     let intervention = intervention_after(before, visits, found);
     HostTransaction {

@@ -5,7 +5,7 @@ use asked::HostAsked;
 use asked::HostTarget;
 use handed::HostAnswer;
 use numbered::HostControls;
-use numbered::HostNumber;
+use numbers::HostNumber;
 use reader::DirectiveRead;
 use reading::BodyAccess;
 use reading::BodyProcessor;
@@ -52,11 +52,11 @@ fn value_of(d: CtlDirective) -> u64
 {
     match d {
         CtlDirective::Unsupported => 0,
-        CtlDirective::RuleEngine(m) => numbered::mode_number(m),
+        CtlDirective::RuleEngine(m) => numbers::mode_number(m),
         CtlDirective::RuleRemoveById(n) => n as u64,
         CtlDirective::RuleRemoveTargetById(cut) => cut as u64,
-        CtlDirective::RequestBodyAccess(a) => numbered::access_number(a),
-        CtlDirective::RequestBodyProcessor(p) => numbered::processor_number(p),
+        CtlDirective::RequestBodyAccess(a) => numbers::access_number(a),
+        CtlDirective::RequestBodyProcessor(p) => numbers::processor_number(p),
     }
 }
 
@@ -124,7 +124,7 @@ pub extern "C" fn tivembo_run_phase(
 pub extern "C" fn tivembo_engine_mode(c: HostControls, ruleset_mode: u64) -> HostAsked
     ensures { λ r. ⌜ r ≡ hostMode c «ruleset_mode» ⌝ }
 {
-    asked::engine_mode(c, ruleset_mode)
+    asked_rule::engine_mode(c, ruleset_mode)
 }
 
 // Whether a rule of this id, or of none, is removed: 1 or 0.
@@ -132,7 +132,7 @@ pub extern "C" fn tivembo_engine_mode(c: HostControls, ruleset_mode: u64) -> Hos
 pub extern "C" fn tivembo_is_rule_removed(c: HostControls, id: HostNumber) -> HostAsked
     ensures { λ r. ⌜ r ≡ hostRemoved c id ⌝ }
 {
-    asked::is_rule_removed(c, id)
+    asked_rule::is_rule_removed(c, id)
 }
 
 #[no_mangle]
@@ -155,7 +155,7 @@ pub extern "C" fn tivembo_target_at(c: HostControls, at: u64) -> HostTarget
 pub extern "C" fn tivembo_request_body_access(c: HostControls) -> HostAsked
     ensures { λ r. ⌜ r ≡ hostAccess c ⌝ }
 {
-    asked::request_body_access(c)
+    asked_body::request_body_access(c)
 }
 
 // 0 where none is set, 1 URLENCODED, 2 MULTIPART, 3 JSON, 4 XML.
@@ -163,7 +163,7 @@ pub extern "C" fn tivembo_request_body_access(c: HostControls) -> HostAsked
 pub extern "C" fn tivembo_request_body_processor(c: HostControls) -> HostAsked
     ensures { λ r. ⌜ r ≡ hostProcessor c ⌝ }
 {
-    asked::request_body_processor(c)
+    asked_body::request_body_processor(c)
 }
 
 // One range at the end.

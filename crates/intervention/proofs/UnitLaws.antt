@@ -16,7 +16,7 @@ use Rattle.reading.specs.Actions.{Placed, actionsOf, lastDisruptive, metadataOf
 use Rattle.reading.specs.Call.{Call, noRule, recordId, ruleAt, idAt, actionsAt}
 use Rattle.reading.specs.Units.{starterOf, closerOf, stopStatus, drops, addressOf, ifDifferent, unitIntervention}
 use Rattle.members.specs.Given.{Rest, callWith}
-use Rattle.intervention.specs.Ends.{statusBy}
+use Rattle.intervention.specs.Stopped.{statusBy}
 
 pub redirected : (phase at : ℕ) (d : DisruptiveOutcome) → d ≡ DisruptiveOutcome.Redirect at
     → OptionPlace.Some (record { phase = phase; position = at }) ≡ addressOf phase d

@@ -13,7 +13,7 @@ use Rattle.reading.specs.Lists.{total}
 use Rattle.reading.specs.Records.{ruleList}
 use Rattle.limits.specs.Weights.{ruleWeight}
 use Rattle.digest.proofs.TotalLaws.{clip-take, total-more, total-take-le, total-none, total-part-le}
-use Rattle.text.proofs.RecordLaws.{length-rules}
+use Rattle.lists.proofs.RecordLaws.{length-rules}
 use Rattle.limits.proofs.Summing.{rules-more}
 
 -- what is held, what the rules up to index i add, and what is left make the limit

@@ -11,8 +11,8 @@ use lib.ListN.{length, take, drop, getD}
 use Rattle.reading.specs.declared.Rule.{Rule}
 use Rattle.reading.specs.Lists.{total}
 use Rattle.reading.specs.Records.{ruleFrom, ruleList}
-use Rattle.text.proofs.RecordLaws.{drop-rules, rules-end}
-use Rattle.text.proofs.Slices.{front-length}
+use Rattle.lists.proofs.RecordLaws.{drop-rules, rules-end}
+use Rattle.lists.proofs.Slices.{front-length}
 use Rattle.limits.specs.Weights.{ruleWeight}
 use Rattle.limits.specs.Weights.{beginOf, endOf, following}
 use Rattle.digest.proofs.TotalLaws.{clip-take, total-take-le, total-take-mono, total-between}

@@ -10,7 +10,7 @@ use Rattle.reading.specs.declared.Rule.{Rule}
 use Rattle.reading.specs.Lists.{total}
 use Rattle.reading.specs.Records.{ruleFrom, ruleList}
 use Rattle.reading.specs.Call.{noRule}
-use Rattle.text.proofs.RecordLaws.{length-rules, rule-is}
+use Rattle.lists.proofs.RecordLaws.{length-rules, rule-is}
 use Rattle.limits.specs.Weights.{ruleWeight}
 use Rattle.limits.specs.Weights.{Summed}
 use Rattle.digest.proofs.TotalLaws.{total-more, total-between}

@@ -12,7 +12,7 @@ use Rattle.reading.specs.Lists.{keep}
 use Rattle.reading.specs.declared.JournalEntry.{JournalEntry}
 use Rattle.reading.specs.Records.{journalFrom, journalList, matchedIn}
 use Rattle.reading.specs.Units.{starterOf, closerOf}
-use Rattle.text.proofs.RecordLaws.{record-is, length-entries, drop-entries, entries-end}
+use Rattle.lists.proofs.RecordLaws.{record-is, length-entries, drop-entries, entries-end}
 
 pub noEntry : JournalEntry
 noEntry = record { index = 0; verdict = 0 }

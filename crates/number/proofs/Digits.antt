@@ -31,7 +31,7 @@ unfolding valueFrom
 value-ge [] v = omega arith
 value-ge (d ∷ ds) v = omega (arith, value-ge ds (v * 10 + (d - 48)))
 
-digits-over : (s : List ℕ) (v : ℕ) → largest < v → digitsFrom v s ≡ Number.Bad
+pub digits-over : (s : List ℕ) (v : ℕ) → largest < v → digitsFrom v s ≡ Number.Bad
 unfolding digitsFrom
 digits-over s v h =
     let g : largest < valueFrom v s = omega (arith, value-ge s v) in

@@ -3,7 +3,7 @@ use mathlib.Core.Bool.{Bool}
 use Rattle.reading.specs.Numbers.{modeSettingNumber, accessSettingNumber, processorSettingNumber}
 use Rattle.control.specs.declared.Controls.{Controls}
 use Rattle.numbered.specs.declared.HostControls.{HostControls}
-use Rattle.numbered.specs.Parts.{modeSetting, accessSetting, processorSetting, settingsKnown}
+use Rattle.numbers.specs.Parts.{modeSetting, accessSetting, processorSetting, settingsKnown}
 
 -- the arrays are those of the record, in use or not
 unfoldable pub controlsFromHost : HostControls → Controls

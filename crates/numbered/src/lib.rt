@@ -1,21 +1,8 @@
-// The controls, a number, a flag and a place as a host lends them: numbers alone, for no enum crosses to C or Rust. Each function here
-// turns one of them into what has enums, or back, or says whether its numbers are known.
+// The controls as a host lends them: numbers alone, for no enum crosses to C or Rust. The functions here turn them into what has
+// enums, or back, or say whether their numbers are known.
 use control::Controls;
 use control::Settings;
-use reading::AccessSetting;
-use reading::BodyAccess;
-use reading::BodyProcessor;
-use reading::ModeSetting;
-use reading::OptionPlace;
-use reading::OptionU64;
-use reading::Place;
-use reading::ProcessorSetting;
-use reading::RuleEngineMode;
 ghost use mathlib.Core.Path.{_≡_};
-ghost use Rattle.reading.specs.Numbers.{modeNumber, accessNumber, processorNumber};
-ghost use Rattle.reading.specs.Numbers.{modeSettingNumber, accessSettingNumber, processorSettingNumber};
-ghost use Rattle.numbered.specs.Parts.{modeSetting, accessSetting, processorSetting, settingsKnown, flagOf, flagNumber, flagKnown};
-ghost use Rattle.numbered.specs.Parts.{numberOf, hostNumber, numberKnown, placeOf, hostPlace, placeKnown};
 ghost use Rattle.numbered.specs.Controls.{controlsFromHost, controlsToHost, knownControls};
 
 // The settings by number, 0 where one is not set, and the arrays with how many of their places are in use.
@@ -32,238 +19,18 @@ pub struct HostControls {
     pub positions: [u64; 64],
 }
 
-// A number or none: `present` is 1 or 0.
-#[repr(C)]
-pub struct HostNumber {
-    pub present: u64,
-    pub value: u64,
-}
-
-// A place or none.
-#[repr(C)]
-pub struct HostPlace {
-    pub present: u64,
-    pub phase: u64,
-    pub position: u64,
-}
-
-// THE SETTINGS
-
-fn mode_setting(n: u64) -> ModeSetting
-    ensures { λ r. ⌜ r ≡ modeSetting n ⌝ }
-{
-    if n == 0 {
-        return ModeSetting::Unset;
-    }
-    if n == 1 {
-        return ModeSetting::Set(RuleEngineMode::On);
-    }
-    if n == 2 {
-        return ModeSetting::Set(RuleEngineMode::DetectionOnly);
-    }
-    ModeSetting::Set(RuleEngineMode::Off)
-}
-
-pub fn mode_number(m: RuleEngineMode) -> u64
-    ensures { λ r. ⌜ r ≡ modeNumber m ⌝ }
-{
-    match m {
-        RuleEngineMode::On => 0,
-        RuleEngineMode::DetectionOnly => 1,
-        RuleEngineMode::Off => 2,
-    }
-}
-
-fn mode_setting_number(setting: ModeSetting) -> u64
-    ensures { λ r. ⌜ r ≡ modeSettingNumber setting ⌝ }
-{
-    match setting {
-        ModeSetting::Unset => 0,
-        ModeSetting::Set(m) => 1 + mode_number(m),
-    }
-}
-
-fn access_setting(n: u64) -> AccessSetting
-    ensures { λ r. ⌜ r ≡ accessSetting n ⌝ }
-{
-    if n == 0 {
-        return AccessSetting::Unset;
-    }
-    if n == 1 {
-        return AccessSetting::Set(BodyAccess::On);
-    }
-    AccessSetting::Set(BodyAccess::Off)
-}
-
-pub fn access_number(a: BodyAccess) -> u64
-    ensures { λ r. ⌜ r ≡ accessNumber a ⌝ }
-{
-    match a {
-        BodyAccess::On => 0,
-        BodyAccess::Off => 1,
-    }
-}
-
-fn access_setting_number(setting: AccessSetting) -> u64
-    ensures { λ r. ⌜ r ≡ accessSettingNumber setting ⌝ }
-{
-    match setting {
-        AccessSetting::Unset => 0,
-        AccessSetting::Set(a) => 1 + access_number(a),
-    }
-}
-
-fn processor_setting(n: u64) -> ProcessorSetting
-    ensures { λ r. ⌜ r ≡ processorSetting n ⌝ }
-{
-    if n == 0 {
-        return ProcessorSetting::Unset;
-    }
-    if n == 1 {
-        return ProcessorSetting::Set(BodyProcessor::Urlencoded);
-    }
-    if n == 2 {
-        return ProcessorSetting::Set(BodyProcessor::Multipart);
-    }
-    if n == 3 {
-        return ProcessorSetting::Set(BodyProcessor::Json);
-    }
-    ProcessorSetting::Set(BodyProcessor::Xml)
-}
-
-pub fn processor_number(p: BodyProcessor) -> u64
-    ensures { λ r. ⌜ r ≡ processorNumber p ⌝ }
-{
-    match p {
-        BodyProcessor::Urlencoded => 0,
-        BodyProcessor::Multipart => 1,
-        BodyProcessor::Json => 2,
-        BodyProcessor::Xml => 3,
-    }
-}
-
-pub fn processor_setting_number(setting: ProcessorSetting) -> u64
-    ensures { λ r. ⌜ r ≡ processorSettingNumber setting ⌝ }
-{
-    match setting {
-        ProcessorSetting::Unset => 0,
-        ProcessorSetting::Set(p) => 1 + processor_number(p),
-    }
-}
-
-// Whether three numbers are those of settings.
-pub fn are_settings_known(mode: u64, access: u64, processor: u64) -> bool
-    ensures { λ r. ⌜ r ≡ settingsKnown mode access processor ⌝ }
-{
-    if 3 < mode {
-        return false;
-    }
-    if 2 < access {
-        return false;
-    }
-    processor <= 4
-}
-
-// NUMBERS AND PLACES, OR NONE
-
-// 1 is true; false is every other number, of which 0 alone is known.
-pub fn flag_of(n: u64) -> bool
-    ensures { λ r. ⌜ r ≡ flagOf n ⌝ }
-{
-    n == 1
-}
-
-pub fn is_flag(n: u64) -> bool
-    ensures { λ r. ⌜ r ≡ flagKnown n ⌝ }
-{
-    n <= 1
-}
-
-pub fn flag_number(b: bool) -> u64
-    ensures { λ r. ⌜ r ≡ flagNumber b ⌝ }
-{
-    if b {
-        return 1;
-    }
-    0
-}
-
-pub fn option_number(h: HostNumber) -> OptionU64
-    ensures { λ r. ⌜ r ≡ numberOf h ⌝ }
-{
-    if h.present == 1 {
-        return OptionU64::Some(h.value);
-    }
-    OptionU64::None
-}
-
-pub fn host_number(o: OptionU64) -> HostNumber
-    ensures { λ r. ⌜ r ≡ hostNumber o ⌝ }
-{
-    match o {
-        OptionU64::None => HostNumber {
-            present: 0,
-            value: 0,
-        },
-        OptionU64::Some(value) => HostNumber { present: 1, value },
-    }
-}
-
-pub fn is_number_known(h: HostNumber) -> bool
-    ensures { λ r. ⌜ r ≡ numberKnown h ⌝ }
-{
-    h.present <= 1
-}
-
-pub fn option_place(h: HostPlace) -> OptionPlace
-    ensures { λ r. ⌜ r ≡ placeOf h ⌝ }
-{
-    if h.present == 1 {
-        return OptionPlace::Some(Place {
-            phase: h.phase,
-            position: h.position,
-        });
-    }
-    OptionPlace::None
-}
-
-pub fn is_place_known(h: HostPlace) -> bool
-    ensures { λ r. ⌜ r ≡ placeKnown h ⌝ }
-{
-    h.present <= 1
-}
-
-pub fn host_place(o: OptionPlace) -> HostPlace
-    ensures { λ r. ⌜ r ≡ hostPlace o ⌝ }
-{
-    match o {
-        OptionPlace::None => HostPlace {
-            present: 0,
-            phase: 0,
-            position: 0,
-        },
-        OptionPlace::Some(at) => HostPlace {
-            present: 1,
-            phase: at.phase,
-            position: at.position,
-        },
-    }
-}
-
-// THE CONTROLS
-
 pub fn is_known_controls(c: HostControls) -> bool
     ensures { λ r. ⌜ r ≡ knownControls c ⌝ }
 {
-    are_settings_known(c.mode, c.access, c.processor)
+    numbers::are_settings_known(c.mode, c.access, c.processor)
 }
 
 pub fn controls_from_host(h: HostControls) -> Controls
     ensures { λ r. ⌜ r ≡ controlsFromHost h ⌝ }
 {
-    let mode = mode_setting(h.mode);
-    let access = access_setting(h.access);
-    let processor = processor_setting(h.processor);
+    let mode = numbers::mode_setting(h.mode);
+    let access = numbers::access_setting(h.access);
+    let processor = numbers::processor_setting(h.processor);
     let starts = h.starts;
     let ends = h.ends;
     let phases = h.phases;
@@ -288,11 +55,11 @@ pub fn controls_to_host(c: Controls) -> HostControls
 {
     let settings = c.settings;
     let mode = settings.mode;
-    let mode = mode_setting_number(mode);
+    let mode = numbers::mode_setting_number(mode);
     let access = settings.access;
-    let access = access_setting_number(access);
+    let access = numbers::access_setting_number(access);
     let processor = settings.processor;
-    let processor = processor_setting_number(processor);
+    let processor = numbers::processor_setting_number(processor);
     let starts = c.starts;
     let ends = c.ends;
     let phases = c.phases;

@@ -26,7 +26,7 @@ pub fn part_of(text: &[u8], p: Part) -> &[u8]
 pub fn trimmed_part(text: &[u8], p: Part) -> &[u8]
     ensures { λ r. ⌜ now r ≡ trim (partOf (now (text .entry)) p) ⌝ }
 {
-    text::trimmed(part_of(text, p))
+    trim::trimmed(part_of(text, p))
 }
 
 // Whether a part of a text, folded, is the given spelling.

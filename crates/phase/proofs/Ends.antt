@@ -18,8 +18,9 @@ use Rattle.reading.specs.Walk as reading
 use Rattle.visit.specs.declared.Visited.{Visited}
 use Rattle.visit.specs.declared.State as code
 use Rattle.visit.specs.Found.{entryBy, foundAt}
-use Rattle.intervention.specs.declared.Ending.{Ending}
-use Rattle.intervention.specs.Ends.{endBy, stoppedBy}
+use Rattle.stopping.specs.declared.Ending.{Ending}
+use Rattle.stopping.specs.Ends.{endBy}
+use Rattle.intervention.specs.Stopped.{stoppedBy}
 use Rattle.phase.specs.Walked.{isGoing, isErrs, isAllows}
 use Rattle.phase.proofs.Turns.{true-false}
 use Rattle.phase.proofs.Found.{byCode, code-is, visit-is, visitOf, unitOf, stateOf}

@@ -28,8 +28,8 @@ use Rattle.reading.specs.Walk.{givesAllow, isError}
 use Rattle.reading.specs.Outcome.{atFreeEnd}
 use Rattle.control.specs.declared.Controls.{Controls}
 use Rattle.control.specs.Held.{controlsOf, Became}
-use Rattle.control.proofs.Chained.{became-same, became-then, became-ranges}
-use Rattle.coded.specs.Coded.{unitCoded, unitChanges}
+use Rattle.control_laws.proofs.Chained.{became-same, became-then, became-ranges}
+use Rattle.coded.specs.Coded.{unitCoded}
 use Rattle.coded.proofs.StepLaws.{Grown, grown-then}
 use Rattle.coded.proofs.Fits.{sourceOf, unit-fits, unit-idle}
 use Rattle.digest.specs.Codes.{codesOf}
@@ -41,8 +41,9 @@ use Rattle.visit.specs.declared.Visited.{Visited}
 use Rattle.visit.specs.Found.{entryBy, foundAt}
 use Rattle.unit.specs.declared.Closed.{Closed}
 use Rattle.unit.specs.Closed.{Wrote}
-use Rattle.intervention.specs.declared.Ending.{Ending}
-use Rattle.intervention.specs.Ends.{endBy, stoppedBy}
+use Rattle.stopping.specs.declared.Ending.{Ending}
+use Rattle.stopping.specs.Ends.{endBy}
+use Rattle.intervention.specs.Stopped.{stoppedBy}
 use Rattle.phase.specs.declared.Transaction.{Transaction}
 use Rattle.phase.specs.declared.Phase.{Phase}
 use Rattle.phase.specs.Walked.{visitsFrom, Ready, isGoing, isErrs, isAllows, endedBy, Walked}

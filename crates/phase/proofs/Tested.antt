@@ -14,8 +14,8 @@ use Rattle.reading.specs.Records.{ruleList, actionList}
 use Rattle.reading.specs.Call.{Call}
 use Rattle.reading.specs.Walk.{isStopped, nothingToDo}
 use Rattle.reading.specs.Refusals.{refusalOf, refused8, refused9}
-use Rattle.text.proofs.RecordLaws.{length-rules}
-use Rattle.text.proofs.RecordLaws.{length-actions}
+use Rattle.lists.proofs.RecordLaws.{length-rules}
+use Rattle.lists.proofs.RecordLaws.{length-actions}
 use Rattle.control.specs.Held.{controlsOf}
 use Rattle.control.proofs.HeldLaws.{ranges-length, targets-length}
 use Rattle.digest.specs.Codes.{codesOf}

@@ -28,14 +28,14 @@ use Rattle.reading.specs.Units.{unitIds, unitData, unitControls, unitFlow, unit
 use Rattle.reading.specs.Walk.{Visit, isLast, entryOf, journalOf, idsOf, dataOf, controlsAfter, walk, verdictAt, visitAt, visitBy}
 use Rattle.reading.specs.Walk.{afterFlow}
 use Rattle.reading.specs.Walk.{answerBy, errorIndexBy, allowedBy, interventionBy}
-use Rattle.reading.specs.Theorems.Rising.{goes-ahead}
+use Rattle.theorems.specs.Rising.{goes-ahead}
 use Rattle.control.specs.declared.Controls.{Controls}
 use Rattle.control.specs.Held.{controlsOf, Became}
-use Rattle.control.proofs.Chained.{became-same, became-then, became-ranges}
+use Rattle.control_laws.proofs.Chained.{became-same, became-then, became-ranges}
 use Rattle.coded.specs.Coded.{unitCoded}
 use Rattle.coded.proofs.StepLaws.{Grown, grown-then}
 use Rattle.coded.proofs.Fits.{sourceOf, unit-fits}
-use Rattle.text.proofs.RecordLaws.{length-rules}
+use Rattle.lists.proofs.RecordLaws.{length-rules}
 use Rattle.members.proofs.MatchedLaws.{matched-append}
 use Rattle.members.proofs.WordLaws.{length-journal-words, journal-words-append, data-words-append, length-data-words}
 use Rattle.members.proofs.WordLaws.{journal-part}
@@ -44,8 +44,9 @@ use Rattle.visit.specs.declared.Visited.{Visited}
 use Rattle.visit.specs.Found.{entryBy, foundAt}
 use Rattle.unit.specs.declared.Closed.{Closed}
 use Rattle.unit.specs.Closed.{Wrote}
-use Rattle.intervention.specs.declared.Ending.{Ending}
-use Rattle.intervention.specs.Ends.{endBy, stoppedBy}
+use Rattle.stopping.specs.declared.Ending.{Ending}
+use Rattle.stopping.specs.Ends.{endBy}
+use Rattle.intervention.specs.Stopped.{stoppedBy}
 use Rattle.phase.specs.declared.Transaction.{Transaction}
 use Rattle.phase.specs.Walked.{visitsFrom, Ready, isGoing, isErrs, isAllows, endedBy, Walked}
 use Rattle.phase.proofs.Turns.{walk-step, walk-off, walk-clip, journal-more, ids-append, data-append, controls-append}

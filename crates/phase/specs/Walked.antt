@@ -1,4 +1,4 @@
--- What the walk's function asks, and what it leaves. Only private functions cite this.
+-- What the walk's function asks, and what it leaves. Only functions that the phase call is made of cite this.
 use Prim.Native.Nat.{ℕ, _+_, _*_, _≤_}
 use mathlib.Core.Path.{_≡_}
 use mathlib.Core.Bool.{Bool, true, false, cond}
@@ -14,7 +14,7 @@ use Rattle.reading.specs.Outcome.{atFreeEnd}
 use Rattle.control.specs.declared.Controls.{Controls}
 use Rattle.control.specs.Held.{controlsOf, Became}
 use Rattle.digest.specs.Codes.{codesOf}
-use Rattle.intervention.specs.declared.Ending.{Ending}
+use Rattle.stopping.specs.declared.Ending.{Ending}
 use Rattle.phase.specs.declared.Transaction.{Transaction}
 use Rattle.phase.specs.declared.Phase.{Phase}
 

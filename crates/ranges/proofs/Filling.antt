@@ -15,7 +15,7 @@ use Rattle.reading.specs.Lists.{keep, over}
 use Rattle.reading.specs.Text.{indexOf, idPart, rangeIn, idParts, rangesIn}
 use Rattle.reading.specs.Directive.{startOf, endOf}
 use Rattle.ranges.specs.Ranges.{fitting, allFitting, Put, Written}
-use Rattle.text.proofs.Filled.{Filled, filled-start, filled-done, filled-put}
+use Rattle.lists.proofs.Filled.{Filled, filled-start, filled-done, filled-put}
 use Rattle.ranges.proofs.Parts.{part-is, parts-last, parts-more}
 
 -- a part's range, where there is a place k among `room`

@@ -1,4 +1,3 @@
 -- Laws on plain lists, for the proofs of several functions.
 pub mod Parts
-pub mod Counting
 pub mod Filling

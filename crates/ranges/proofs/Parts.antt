@@ -12,7 +12,7 @@ use Rattle.reading.specs.declared.Number.{Number}
 use Rattle.reading.specs.declared.IdPart.{IdPart}
 use Rattle.reading.specs.Lists.{keep}
 use Rattle.reading.specs.Text.{trim, numberOf, indexOf, onFirst, splitOn, oneId, idsTo, idsFrom, trimmedPart, idPart, idParts}
-use Rattle.text.proofs.Slices.{rest-eq}
+use Rattle.lists.proofs.Slices.{rest-eq}
 
 -- the parts behind the first
 abbrev pub later : ℕ → List ℕ → List (List ℕ)
@@ -46,7 +46,7 @@ module _ (s : List ℕ) (at k : ℕ) (part : IdPart)
   pub part-is : idPart (take k (drop at s)) ≡ part
   part-is = sym (pe ∙ ap (λ (l : List ℕ). idPart (take k l)) (rest-eq s at))
 
-  pub parts-are : idParts (drop at s) ≡ take k (drop at s) ∷ later 44 (drop at s)
+  parts-are : idParts (drop at s) ≡ take k (drop at s) ∷ later 44 (drop at s)
   parts-are = split-first 44 (drop at s) ∙ ap (λ (n : ℕ). take n (drop at s) ∷ later 44 (drop at s)) comma
 
   pub parts-last : length s - at ≤ k → idParts (drop at s) ≡ take k (drop at s) ∷ []

@@ -1,36 +1,15 @@
--- What the two functions of this crate answer and write, in terms of `removalValue` and `rangesIn`.
+-- What the functions of this crate write, in terms of `rangesIn`.
 use Prim.Native.Nat.{ℕ, _+_, min}
 use mathlib.Core.Path.{_≡_}
-use mathlib.Core.Bool.{cond}
 use mathlib.Core.List.{List, map}
-use lib.Dec.{ltb, eqb}
+use lib.Dec.{ltb}
 use lib.ListN.{length, take}
 use lib.Seq.{sets}
 use Rattle.reading.specs.declared.RuleIdRange.{RuleIdRange}
 use Rattle.reading.specs.declared.IdPart.{IdPart}
 use Rattle.reading.specs.Lists.{keep, over}
 use Rattle.reading.specs.Text.{idParts, rangeIn, rangesIn}
-use Rattle.reading.specs.Directive.{Directive, ruleEngine, ruleRemoveById, ruleRemoveTargetById, requestBodyAccess, requestBodyProcessor, unsupported, startOf, endOf}
-use Rattle.ranges.specs.declared.RangeCount.{RangeCount}
-
--- 01: "no part at all makes the whole directive unsupported"
-abbrev pub countOf : ℕ → RangeCount
-countOf n = cond (eqb n 0) RangeCount.Unsupported (RangeCount.Ranges n)
-
--- how many ranges a directive has, where it is a supported ruleRemoveById
-abbrev pub countIn : Directive → RangeCount
-countIn (ruleEngine m) = RangeCount.Unsupported
-countIn (ruleRemoveById rs) = RangeCount.Ranges (length rs)
-countIn (ruleRemoveTargetById id target) = RangeCount.Unsupported
-countIn (requestBodyAccess a) = RangeCount.Unsupported
-countIn (requestBodyProcessor p) = RangeCount.Unsupported
-countIn unsupported = RangeCount.Unsupported
-
--- what a part counts as: a blank one 0, a range 1, a bad one 2
-abbrev pub kindOf : IdPart → ℕ
-kindOf IdPart.Blank = 0
-kindOf (IdPart.Range r) = 1
-kindOf IdPart.Bad = 2
+use Rattle.reading.specs.Directive.{startOf, endOf}
 
 -- a part's range, where both lists have the place k
 abbrev pub fitting : List ℕ → List ℕ → ℕ → IdPart → List RuleIdRange

@@ -49,10 +49,10 @@ pub fn read_directive(
     if 65536 < value.len() {
         return refused(2);
     }
-    if text::has_high_byte(name) {
+    if above::has_high_byte(name) {
         return refused(6);
     }
-    if text::has_high_byte(value) {
+    if above::has_high_byte(value) {
         return refused(6);
     }
     let directive = directive::parse(name, value);
@@ -69,7 +69,7 @@ pub fn read_directive(
             directive,
         };
     }
-    ranges::write_ranges(text::trimmed(value), starts, ends);
+    ranges::write_ranges(trim::trimmed(value), starts, ends);
     DirectiveRead {
         answer: 0,
         directive,

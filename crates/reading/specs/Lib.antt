@@ -15,5 +15,4 @@ pub mod Replay
 pub mod Outcome
 pub mod Demand3
 pub mod Manual
-pub mod Theorems
 pub mod Cases

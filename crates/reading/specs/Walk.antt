@@ -165,7 +165,7 @@ nothingToDo q =
 abbrev pub start : Call → State
 start q = record { next = 0; members = []; controls = q .transaction .controls }
 
--- each visit goes on to a greater index, so there are at most as many as rules (`walk-complete` in Theorems/Rising.antt)
+-- each visit goes on to a greater index, so there are at most as many as rules (`walk-complete` in crates/theorems)
 unfoldable pub walkOf : Call → List Visit
 walkOf q = keep (not (nothingToDo q)) (walk (ruleCount q) q (start q))
 

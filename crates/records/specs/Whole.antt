@@ -1,10 +1,10 @@
 -- The transaction that a host's record stands for, and the record that is written back.
 use mathlib.Core.Bool.{Bool, _&&_}
 use Rattle.phase.specs.declared.Transaction.{Transaction}
-use Rattle.numbered.specs.Parts.{flagOf, flagNumber, flagKnown}
+use Rattle.numbers.specs.Parts.{flagOf, flagNumber, flagKnown}
 use Rattle.numbered.specs.Controls.{controlsFromHost, controlsToHost, knownControls}
 use Rattle.records.specs.declared.HostTransaction.{HostTransaction}
-use Rattle.records.specs.Parts.{interventionOf, hostIntervention, interventionKnown}
+use Rattle.stops.specs.Parts.{interventionOf, hostIntervention, interventionKnown}
 
 unfoldable pub fromHost : HostTransaction → Transaction
 fromHost h =

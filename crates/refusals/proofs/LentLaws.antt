@@ -13,8 +13,8 @@ use Rattle.reading.specs.Records.{ruleList, actionList, markerList}
 use Rattle.reading.specs.Call.{Call}
 use Rattle.reading.specs.Refusals.{refused1, refused2, refused3, refused4, refused5, refused6, refused7}
 use Rattle.reading.specs.Refusals.{badRule, badAction, badMarker, badOutcome}
-use Rattle.text.proofs.RecordLaws.{length-actions}
-use Rattle.text.proofs.RecordLaws.{length-rules, length-markers}
+use Rattle.lists.proofs.RecordLaws.{length-actions}
+use Rattle.lists.proofs.RecordLaws.{length-rules, length-markers}
 use Rattle.refusals.specs.declared.Sizes.{Sizes}
 use Rattle.refusals.specs.Lent.{Lent}
 

@@ -81,13 +81,13 @@ fn has_bad_record(
     if checks::any_bad_rule(rules, actions.len() / 6) {
         return true;
     }
-    if checks::any_bad_action(actions, bytes) {
+    if action_checks::any_bad_action(actions, bytes) {
         return true;
     }
-    if checks::any_bad_marker(markers, bytes, rules.len() / 5) {
+    if marker_checks::any_bad_marker(markers, bytes, rules.len() / 5) {
         return true;
     }
-    checks::any_bad_outcome(outcomes)
+    marker_checks::any_bad_outcome(outcomes)
 }
 
 // Whether a list of so many entries, some of them used, has fewer free than are needed. The sum is never formed, so it
@@ -147,7 +147,7 @@ pub fn first_refusal(
     if has_bad_record(rules, actions, markers, bytes, outcomes) {
         return 5;
     }
-    if text::has_high_byte(text) {
+    if above::has_high_byte(text) {
         return 6;
     }
     if has_no_room(sizes, n) {

@@ -433,7 +433,7 @@ fn same_place_text(
     actions: &[u64],
     text: &[u8],
 ) -> usize {
-    let a = actions::action_at(actions, p.position as usize);
+    let a = action_record::action_at(actions, p.position as usize);
     let part = a.text;
     if p.phase != phase {
         return NOWHERE;
@@ -572,7 +572,7 @@ fn same_target(
     actions: &[u64],
     text: &[u8],
 ) -> usize {
-    let a = actions::action_at(actions, p.position as usize);
+    let a = action_record::action_at(actions, p.position as usize);
     let part = a.value;
     let value = parts::part_of(text, part);
     let cut = text::find(value, b';');
@@ -582,8 +582,8 @@ fn same_target(
     if p.phase != phase {
         return NOWHERE;
     }
-    let next = same_text(list, at, text::trimmed(&value[0..cut]));
-    same_text(list, next, text::trimmed(&value[cut + 1..]))
+    let next = same_text(list, at, trim::trimmed(&value[0..cut]));
+    same_text(list, next, trim::trimmed(&value[cut + 1..]))
 }
 
 // Whether the recorded targets are those from the index `from` up to `to`.

@@ -8,7 +8,7 @@ use native.Mathlib.Numerals.{add-one}
 use lib.ListN.{length, getD, drop}
 use Rattle.reading.specs.Records.{ruleList}
 use Rattle.reading.specs.Walk.{chainRest}
-use Rattle.text.proofs.RecordLaws.{drop-rules, rules-end}
+use Rattle.lists.proofs.RecordLaws.{drop-rules, rules-end}
 
 module _ (words : List ℕ) (i : ℕ) where
   -- a link: the chain goes on behind it

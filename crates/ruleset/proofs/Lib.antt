@@ -1,3 +1,2 @@
 -- Laws on plain lists and numbers, for the proofs of the functions.
 pub mod ChainLaws
-pub mod MarkerLaws

@@ -1,15 +1,11 @@
-// A rule set's records at an index, and the position of a marker (engine/ruleset.rs). Rules and markers are lent as flat
-// lists of numbers, five to a rule and three to a marker.
+// A rule set's records at an index (engine/ruleset.rs). Rules are lent as a flat list of numbers, five to a rule.
 use reading::OptionU64;
-use reading::Part;
 use reading::Rule;
 ghost use mathlib.Core.Path.{_≡_};
 ghost use Prim.Native.Nat.{_+_};
 ghost use lib.ListN.{getD, drop};
-ghost use Rattle.reading.specs.Text.{partOf};
-ghost use Rattle.reading.specs.Records.{ruleList, markerList};
+ghost use Rattle.reading.specs.Records.{ruleList};
 ghost use Rattle.reading.specs.Call.{noRule, recordId};
-ghost use Rattle.reading.specs.Markers.{markerPosition};
 ghost use Rattle.reading.specs.Walk.{chainRest};
 
 // The rule at an index, all zeros where there is none.
@@ -70,37 +66,4 @@ pub fn after_chain(rules: &[u64], index: usize) -> usize
         }
     }
     i
-}
-
-// The position of the latest marker of a name, byte for byte, or none.
-pub fn marker(markers: &[u64], text: &[u8], name: Part) -> OptionU64
-    ensures { λ r. ⌜ r ≡ markerPosition (now (text .entry)) (markerList (now (markers .entry))) (partOf (now (text .entry)) name) ⌝ }
-{
-    let wanted = parts::part_of(text, name);
-    let n = wanted.len();
-    let mut k = markers.len() / 3;
-    let found = 'search: loop {
-        if k == 0 {
-            break 'search OptionU64::None;
-        }
-        k -= 1;
-        let p = Part {
-            start: markers[3 * k],
-            len: markers[3 * k + 1],
-        };
-        let other = parts::part_of(text, p);
-        if other.len() == n {
-            let mut j = 0;
-            'name: loop {
-                if j == n {
-                    break 'search OptionU64::Some(markers[3 * k + 2]);
-                }
-                if other[j] != wanted[j] {
-                    break 'name;
-                }
-                j += 1;
-            }
-        }
-    };
-    found
 }

@@ -1,12 +1,12 @@
 // The phase call (`Transaction::run_phase` in engine/transaction.rs), by value: transaction in, transaction and answer out.
-use coded::Held;
+use adding::Held;
 use control::Controls;
-use intervention::Ending;
 use phase::Phase;
 use phase::Transaction;
 use reading::OptionIntervention;
 use reading::Verdict;
 use refusals::Sizes;
+use stopping::Ending;
 use visit::State;
 use visit::Visited;
 ghost use mathlib.Core.Path.{_≡_};

@@ -15,9 +15,9 @@ use Rattle.reading.specs.declared.JournalEntry.{JournalEntry}
 use Rattle.reading.specs.Lists.{keep, over, gather}
 use Rattle.reading.specs.Numbers.{listOf}
 use Rattle.reading.specs.Records.{dataWords, journalFrom, journalList, matchedIn}
-use Rattle.text.proofs.Filled.{Filled, filled-start, filled-done, filled-put}
+use Rattle.lists.proofs.Filled.{Filled, filled-start, filled-done, filled-put}
 use Rattle.members.proofs.MatchedLaws.{next-entries}
-use Rattle.text.proofs.RecordLaws.{entries-end}
+use Rattle.lists.proofs.RecordLaws.{entries-end}
 use Rattle.unit.specs.Closed.{fitting, Put, Listed}
 
 -- an id, none or one, written where there is a place

@@ -1,3 +1,2 @@
-pub mod FlowLaws
 pub mod EntryLaws
 pub mod CloseLaws

@@ -2,21 +2,16 @@
 // what its starter's actions say of the flow and of the request.
 use reading::DataEntry;
 use reading::DisruptiveOutcome;
-use reading::FlowOutcome;
 use reading::OptionU64;
 ghost use mathlib.Core.Path.{_≡_};
 ghost use mathlib.Core.Bool.{_&&_};
-ghost use mathlib.Core.List.{List, [], _∷_};
-ghost use Prim.Native.Nat.{ℕ, _+_, min};
+ghost use mathlib.Core.List.{[], _∷_};
 ghost use lib.Dec.{eqb};
-ghost use lib.ListN.{length, take, getD};
+ghost use lib.ListN.{length, take};
 ghost use Rattle.reading.specs.Lists.{keep, over, gather};
 ghost use Rattle.reading.specs.Numbers.{listOf};
-ghost use Rattle.reading.specs.Reading.{rust};
 ghost use Rattle.reading.specs.Records.{ruleList, journalList, matchedIn};
-ghost use Rattle.reading.specs.Call.{Call, ruleCount};
 ghost use Rattle.reading.specs.Units.{ownOr};
-ghost use Rattle.reading.specs.Walk.{jumpFrom, afterFlow};
 ghost use Rattle.members.specs.Given.{Rest, callWith};
 ghost use Rattle.unit.specs.Closed.{entryWith, memberEntry, Put, Listed, Wrote};
 
@@ -120,66 +115,6 @@ fn put_entries(
     w
 }
 
-// A skip of n indexes from `behind` on, which goes no further than behind the last rule.
-fn skipped(behind: usize, n: u64, rules: usize) -> usize
-    ensures { λ r. ⌜ r ≡ min (behind + n) rules ⌝ }
-{
-    if rules <= behind {
-        return rules;
-    }
-    if (rules - behind) as u64 <= n {
-        return rules;
-    }
-    behind + n as usize
-}
-
-// A marker is jumped to if its position is greater than `behind`; else the rest is passed.
-fn jumped(behind: usize, found: OptionU64, rules: usize) -> usize
-    ensures { λ r. ⌜ ((q : Call) → q .reading ≡ rust → ruleCount q ≡ rules → r ≡ min (jumpFrom q behind found) rules) ⌝ }
-{
-    let OptionU64::Some(position) = found else {
-        return rules;
-    };
-    if position <= behind as u64 {
-        return rules;
-    }
-    if rules as u64 <= position {
-        return rules;
-    }
-    position as usize
-}
-
-// The index that the walk goes on with, given the one behind the closing rule.
-fn after_flow(
-    flow: FlowOutcome,
-    behind: usize,
-    rules: &[u64],
-    actions: &[u64],
-    markers: &[u64],
-    text: &[u8],
-) -> usize
-    ensures { λ r. ⌜ ((phase : ℕ) (outcomes : List ℕ) (rest : Rest)
-        → let q = callWith phase (now (rules .entry)) (now (actions .entry)) (now (markers .entry)) (now (text .entry)) outcomes rest in
-        r ≡ min (afterFlow q behind flow) (ruleCount q)) ⌝ }
-{
-    let n = rules.len() / 5;
-    match flow {
-        FlowOutcome::Continue => {
-            return skipped(behind, 0, n);
-        }
-        FlowOutcome::Chain => {
-            return skipped(behind, 0, n);
-        }
-        FlowOutcome::Skip(count) => {
-            return skipped(behind, count, n);
-        }
-        FlowOutcome::SkipAfter(position) => {
-            let name = actions::action_at(actions, position as usize).text;
-            return jumped(behind, ruleset::marker(markers, text, name), n);
-        }
-    }
-}
-
 // Closes a unit, or nothing.
 pub fn close_unit(
     closes: bool,
@@ -206,7 +141,7 @@ pub fn close_unit(
         let acts = actions::execute_actions(actions, starter, phase, &mut none[1..]);
         let flow = acts.flow;
         let disruptive = acts.disruptive;
-        let next = after_flow(flow, behind, rules, actions, markers, text);
+        let next = flow::after_flow(flow, behind, rules, actions, markers, text);
         return Closed {
             ids: listed,
             entries: written,

@@ -11,7 +11,7 @@ use Rattle.reading.specs.declared.Verdict.{Verdict}
 use Rattle.reading.specs.Call.{noRule}
 use Rattle.reading.specs.Records.{ruleList}
 use Rattle.reading.specs.Walk.{verdictBy, chainRest}
-use Rattle.text.proofs.RecordLaws.{length-rules, rule-is}
+use Rattle.lists.proofs.RecordLaws.{length-rules, rule-is}
 use Rattle.visit.specs.declared.State.{State}
 use Rattle.visit.specs.declared.Visited.{Visited}
 use Rattle.visit.specs.Found.{entryBy, passed, foundBy, foundAt}

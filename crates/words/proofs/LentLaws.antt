@@ -17,7 +17,7 @@ use Rattle.reading.specs.Refusals.{refusalOf, refused1, refused2, isAccepted}
 use Rattle.reading.specs.Walk.{Visit, walkOf, journalOf, idsOf, dataOf, answerBy, errorIndexBy}
 use Rattle.reading.specs.Outcome.{Outcome, visitsOf, outcomeOf, atFreeEnd, transactionAfter}
 use Rattle.reading.specs.Demand3.{Demand3}
-use Rattle.reading.specs.Theorems.Demands.{demand3}
+use Rattle.theorems.specs.Demands.{demand3}
 use Rattle.control.specs.Held.{Became}
 use Rattle.markers.specs.Unpacked.{markerWords, wordsOf}
 use Rattle.phase.specs.declared.Transaction.{Transaction}

@@ -128,9 +128,14 @@ fn settings() -> Directives {
 fn long_values() -> Vec<Directives> {
     let removal = |what, repeated| long(what, "ruleRemoveById", repeated, "x");
     vec![
-        removal("blank parts", ","),
+        removal("empty parts", ","),
+        removal("one blank part", " "),
         removal("ids of one digit", "1,"),
+        removal("ids of one digit behind a blank", " 1,"),
+        removal("ids of one digit behind a plus", "+1,"),
+        removal("ids of two digits", "12,"),
         removal("ranges of two ids of one digit", "1-1,"),
+        removal("ranges of one digit with a blank", "1- 1,"),
         removal("ids of six digits", "123456,"),
         removal("ids of 19 digits", "1234567890123456789,"),
         removal("one number", "0"),

@@ -8,7 +8,7 @@ use Rattle.reading.specs.Lists.{any}
 use Rattle.reading.specs.Records.{ruleList}
 use Rattle.reading.specs.Call.{noRule}
 use Rattle.reading.specs.Refusals.{badRule}
-use Rattle.text.proofs.RecordLaws.{length-rules}
+use Rattle.lists.proofs.RecordLaws.{length-rules}
 use Rattle.checks.proofs.AnyLaws.{any-found, any-passed, any-end}
 use Rattle.checks.proofs.any_bad_rule.Statement.{statement}
 use Rattle.checks.proofs.any_bad_rule.Tie as tie

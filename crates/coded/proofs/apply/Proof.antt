@@ -26,10 +26,10 @@ same-length-2 c = search needs
 
 returns-2 : tie.Need-returns-2
 returns-2 c =
-    turned-target _ _ _ _ _ _ _ _
-    (c .before .before .before .before .before .before .before .before .before .before .before .before .before .before .before
-    .pre) _ _ _ (c .before .before .before .before .before .before .before .if2 .taken)
-    (c .before .before .before .before .add-target .ensures)
+    let whole = c .before .before .before .before .before .before .before .before .before .before .before .before .before .before
+    .before .pre in
+    turned-target _ _ _ _ _ _ _ _ whole _ _ _ (c .before .before .before .before .before .before .before .if2 .taken)
+    (c .before .before .before .before .add-target .ensures .0 (whole .phases-64, whole .positions-64))
 
 action-at-requires : tie.Need-action-at-requires
 action-at-requires c κs = search needs
@@ -48,9 +48,9 @@ same-length-4 c = search needs
 
 returns-3 : tie.Need-returns-3
 returns-3 c =
-    turned-ranges _ _ _ _ _ _ _ _
-    (c .before .before .before .before .before .before .before .before .before .before .before .before .before .before .before
-    .before .before .pre) _ _ _ _
+    let whole = c .before .before .before .before .before .before .before .before .before .before .before .before .before .before
+    .before .before .before .pre in
+    turned-ranges _ _ _ _ _ _ _ _ whole _ _ _ _
     (c .before .before .before .before .before .before .before .before .before .before .if1 .left)
     (c .before .before .before .before .before .before .before .before .before .if2 .left)
     (c .before .before .before .before .before .before .before .part-of .ensures ∙ ap
@@ -58,7 +58,7 @@ returns-3 c =
     (c .before .before .before .before .before .before .before .before .before .before .before .before .before .before .before
     .before .before .args .text .now) (a .value))
     (c .before .before .before .before .before .before .before .before .action-at .ensures))
-    (c .before .before .before .before .add-ranges .ensures)
+    (c .before .before .before .before .add-ranges .ensures .0 (whole .starts-256, whole .ends-256))
 
 pub apply-spec : {M : Type 1} → statement M
 apply-spec =

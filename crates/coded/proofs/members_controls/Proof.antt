@@ -3,7 +3,8 @@ use Prim.Native.Nat.{_+_, _-_, _<_, _^_}
 use mathlib.Core.Path.{sym, _∙_}
 use native.Mathlib.Omega.{arith}
 use Rattle.reading.specs.Records.{ruleList, actionList}
-use Rattle.coded.specs.Lent.{structOf, Whole}
+use Rattle.adding.specs.Lent.{structOf}
+use Rattle.coded.specs.Lent.{Whole}
 use Rattle.coded.proofs.UnitLaws.{Across, across-none, across-more, across-end}
 use Rattle.coded.proofs.members_controls.Statement.{statement}
 use Rattle.coded.proofs.members_controls.Tie as tie

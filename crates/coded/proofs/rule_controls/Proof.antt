@@ -6,8 +6,10 @@ use lib.ListN.{length}
 use Rattle.reading.specs.Records.{actionList}
 use Rattle.control.specs.Held.{controlsOf}
 use Rattle.coded.specs.Coded.{appliedCodes}
-use Rattle.coded.specs.Lent.{structOf, Whole}
-use Rattle.coded.proofs.RuleLaws.{slice, Going, going-none, going-more, going-end}
+use Rattle.adding.specs.Lent.{structOf}
+use Rattle.coded.specs.Lent.{Whole}
+use Rattle.changes.proofs.CodeLaws.{slice}
+use Rattle.coded.proofs.RuleLaws.{Going, going-none, going-more, going-end}
 use borrow.Author.Needs.{needs}
 use Rattle.coded.proofs.rule_controls.Statement.{statement}
 use Rattle.coded.proofs.rule_controls.Tie as tie

@@ -6,7 +6,7 @@ use Rattle.reading.specs.Records.{ruleList, actionList, journalList, matchedIn}
 use Rattle.reading.specs.Controls.{Controls}
 use Rattle.control.specs.Held.{controlsOf}
 use Rattle.coded.specs.Coded.{Source, unitCoded}
-use Rattle.coded.specs.Lent.{structOf}
+use Rattle.adding.specs.Lent.{structOf}
 use Rattle.coded.proofs.LentLaws.{left-same, turned-same, turned-as}
 use Rattle.coded.proofs.Fits.{after-idle, after-changed}
 use borrow.Author.Needs.{needs}

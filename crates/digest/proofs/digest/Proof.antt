@@ -5,7 +5,7 @@ use mathlib.Core.Path.{_≡_, _∙_}
 use native.Mathlib.Omega.{arith}
 use lib.ListN.{length, take}
 use Rattle.reading.specs.Records.{actionList}
-use Rattle.text.proofs.RecordLaws.{length-actions}
+use Rattle.lists.proofs.RecordLaws.{length-actions}
 use Rattle.actions.proofs.ControlLaws.{fitting}
 use Rattle.digest.specs.Codes.{codesOf}
 use Rattle.digest.proofs.Writing.{codes-none, codes-more, codes-all, codes-length}

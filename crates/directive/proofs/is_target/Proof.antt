@@ -4,7 +4,7 @@ use mathlib.Core.Path.{_≡_, sym, ap, _∙_}
 use native.Mathlib.Omega.{arith}
 use native.Mathlib.Numerals.{add-one}
 use lib.ListN.{length, take, drop}
-use Rattle.text.proofs.Slices.{rest-eq, front-length}
+use Rattle.lists.proofs.Slices.{rest-eq, front-length}
 use Rattle.reading.specs.Text.{trim}
 use Rattle.directive.proofs.Values.{target-whole, target-no-id, target-both}
 use Rattle.directive.proofs.is_target.Statement.{statement}

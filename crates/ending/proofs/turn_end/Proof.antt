@@ -3,7 +3,7 @@ use mathlib.Core.Path.{_∙_, ap}
 use mathlib.Core.Bool.{not, _||_}
 use Rattle.reading.specs.declared.RuleEngineMode.{RuleEngineMode}
 use Rattle.reading.specs.Controls.{isOff}
-use Rattle.intervention.specs.Ends.{endBy}
+use Rattle.stopping.specs.Ends.{endBy}
 use Rattle.phase.specs.Walked.{isGoing}
 use borrow.Author.Needs.{needs}
 use Rattle.ending.proofs.turn_end.Statement.{statement}

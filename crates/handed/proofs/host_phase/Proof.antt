@@ -4,7 +4,7 @@ use Prim.Native.Nat.{ℕ}
 use mathlib.Core.List.{List, map}
 use lib.ListN.{length, length-map}
 use denote.Ref.{now}
-use Rattle.control.proofs.Determined.{SameSizes}
+use Rattle.control_laws.proofs.Determined.{SameSizes}
 use Rattle.numbered.specs.Controls.{controlsFromHost}
 use borrow.Author.Needs.{needs}
 use borrow.Author.Tests.{not-true, not-false}

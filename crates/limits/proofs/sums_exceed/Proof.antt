@@ -6,7 +6,7 @@ use native.Mathlib.Omega.{arith}
 use mathlib.Core.List.{List}
 use lib.ListN.{length, take, drop, getD}
 use Rattle.reading.specs.Lists.{total}
-use Rattle.text.proofs.Slices.{front-length}
+use Rattle.lists.proofs.Slices.{front-length}
 use Rattle.limits.specs.Weights.{weightBy}
 use Rattle.limits.proofs.Summing.{part-is}
 use Rattle.limits.proofs.Exceeding.{Left, over-held, left-none, left-over, left-more, left-end}

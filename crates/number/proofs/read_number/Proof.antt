@@ -1,7 +1,7 @@
 use borrow.Author.Needs.{needs}
 use mathlib.Core.Path.{sym, ap, _∙_}
 use Rattle.reading.specs.Text.{digits}
-use Rattle.text.proofs.Slices.{rest-eq}
+use Rattle.lists.proofs.Slices.{rest-eq}
 use Rattle.number.proofs.Digits.{number-none, number-plus, number-plain}
 use Rattle.number.proofs.read_number.Statement.{statement}
 use Rattle.number.proofs.read_number.Tie as tie

@@ -2,7 +2,7 @@ use borrow.Author.Needs.{needs}
 use mathlib.Core.Path.{sym, ap, _∙_}
 use native.Mathlib.Omega.{arith}
 use lib.ListN.{length, take}
-use Rattle.text.proofs.Slices.{rest-eq, rest-none, front-length}
+use Rattle.lists.proofs.Slices.{rest-eq, rest-none, front-length}
 use Rattle.parts.proofs.Clipped.{part-none, part-rest}
 use Rattle.parts.proofs.part_of.Statement.{statement}
 use Rattle.parts.proofs.part_of.Tie as tie

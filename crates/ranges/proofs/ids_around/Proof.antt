@@ -5,7 +5,7 @@ use native.Mathlib.Omega.{arith}
 use native.Mathlib.Numerals.{add-one}
 use lib.ListN.{length, take, drop}
 use Rattle.reading.specs.Text.{trim, numberOf}
-use Rattle.text.proofs.Slices.{rest-eq, front-length}
+use Rattle.lists.proofs.Slices.{rest-eq, front-length}
 use Rattle.ranges.proofs.Parts.{around-first-bad, around-second-bad, around-above, around-range}
 use Rattle.ranges.proofs.ids_around.Statement.{statement}
 use Rattle.ranges.proofs.ids_around.Tie as tie

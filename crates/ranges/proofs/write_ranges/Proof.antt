@@ -6,7 +6,7 @@ use Prim.Native.Nat.{ℕ, _+_, _-_, _≤_, _<_, min}
 use mathlib.Core.Path.{_∙_}
 use native.Mathlib.Omega.{arith}
 use Rattle.reading.specs.Directive.{startOf, endOf}
-use Rattle.text.proofs.Slices.{front-length}
+use Rattle.lists.proofs.Slices.{front-length}
 use Rattle.text.proofs.Search.{index-le}
 use Rattle.ranges.proofs.Filling.{Done, done-start, written-last, starts-more, ends-more}
 use Rattle.ranges.proofs.write_ranges.Statement.{statement}

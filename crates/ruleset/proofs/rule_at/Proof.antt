@@ -2,7 +2,7 @@
 use borrow.Author.Needs.{needs}
 use mathlib.Core.Path.{sym}
 use Rattle.reading.specs.Call.{noRule}
-use Rattle.text.proofs.RecordLaws.{rule-is, rule-behind}
+use Rattle.lists.proofs.RecordLaws.{rule-is, rule-behind}
 use Rattle.ruleset.proofs.rule_at.Statement.{statement}
 use Rattle.ruleset.proofs.rule_at.Tie as tie
 

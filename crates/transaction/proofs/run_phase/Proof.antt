@@ -11,7 +11,7 @@ use Rattle.reading.specs.Lists.{over}
 use Rattle.reading.specs.Records.{actionList}
 use Rattle.reading.specs.Walk.{nothingToDo}
 use Rattle.reading.specs.Refusals.{refusalOf, refused8, refused9}
-use Rattle.text.proofs.RecordLaws.{length-actions}
+use Rattle.lists.proofs.RecordLaws.{length-actions}
 use Rattle.digest.specs.Codes.{codesOf}
 use Rattle.refusals.specs.Lent.{firstOfSeven}
 use Rattle.phase.proofs.Promise.{few-of-seven, accepted}

@@ -12,8 +12,9 @@ use Rattle.reading.specs.Call.{Call, modeUnder}
 use Rattle.reading.specs.Walk.{verdictAt, visitAt}
 use Rattle.control.specs.Held.{controlsOf, Became}
 use Rattle.control.specs.declared.Controls.{Controls}
-use Rattle.coded.specs.Lent.{structOf, Whole}
-use Rattle.intervention.specs.Ends.{endBy}
+use Rattle.adding.specs.Lent.{structOf}
+use Rattle.coded.specs.Lent.{Whole}
+use Rattle.stopping.specs.Ends.{endBy}
 use Rattle.members.specs.Given.{Rest}
 use Rattle.visit.specs.declared.Visited.{Visited}
 use Rattle.visit.specs.Found.{foundAt}

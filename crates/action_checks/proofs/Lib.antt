@@ -1,0 +1,2 @@
+-- Laws on plain numbers, for the proofs of the functions.
+pub mod LimitLaws

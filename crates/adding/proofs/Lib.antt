@@ -1,0 +1,3 @@
+pub mod WrittenLaws
+pub mod RangeLaws
+pub mod LentLaws

@@ -1,0 +1,2 @@
+pub mod Determined
+pub mod Chained

@@ -1,0 +1,2 @@
+-- Laws on plain lists and numbers, for the proof of the function.
+pub mod MarkerLaws

@@ -1,0 +1,40 @@
+// The position of a marker (engine/ruleset.rs). Markers are lent as a flat list of numbers, three to a marker.
+use reading::OptionU64;
+use reading::Part;
+ghost use mathlib.Core.Path.{_≡_};
+ghost use Rattle.reading.specs.Text.{partOf};
+ghost use Rattle.reading.specs.Records.{markerList};
+ghost use Rattle.reading.specs.Markers.{markerPosition};
+
+// The position of the latest marker of a name, byte for byte, or none.
+pub fn marker(markers: &[u64], text: &[u8], name: Part) -> OptionU64
+    ensures { λ r. ⌜ r ≡ markerPosition (now (text .entry)) (markerList (now (markers .entry))) (partOf (now (text .entry)) name) ⌝ }
+{
+    let wanted = parts::part_of(text, name);
+    let n = wanted.len();
+    let mut k = markers.len() / 3;
+    let found = 'search: loop {
+        if k == 0 {
+            break 'search OptionU64::None;
+        }
+        k -= 1;
+        let p = Part {
+            start: markers[3 * k],
+            len: markers[3 * k + 1],
+        };
+        let other = parts::part_of(text, p);
+        if other.len() == n {
+            let mut j = 0;
+            'name: loop {
+                if j == n {
+                    break 'search OptionU64::Some(markers[3 * k + 2]);
+                }
+                if other[j] != wanted[j] {
+                    break 'name;
+                }
+                j += 1;
+            }
+        }
+    };
+    found
+}

@@ -1,0 +1,79 @@
+-- The pass of `count_ranges`: what each byte makes of what is seen of a part. That the pass counts what `removalValue` says
+-- is proved in proofs/Passing.antt: nobody needs to believe this page.
+use Prim.Native.Nat.{ℕ, _+_, _-_, _*_}
+use mathlib.Core.Bool.{Bool, true, false, cond}
+use lib.Dec.{leb, eqb}
+use Rattle.reading.specs.Text.{isBlank, isDigit, largest}
+use Rattle.range_count.specs.declared.Stage.{Stage}
+use Rattle.range_count.specs.declared.Seen.{Seen}
+use Rattle.range_count.specs.declared.Step.{Step}
+use Rattle.range_count.specs.declared.PartEnd.{PartEnd}
+
+abbrev pub isBehind : Stage → Bool
+isBehind Stage.Start = false
+isBehind Stage.Plus = false
+isBehind Stage.Digits = false
+isBehind Stage.Behind = true
+
+abbrev pub hasDigits : Stage → Bool
+hasDigits Stage.Start = false
+hasDigits Stage.Plus = false
+hasDigits Stage.Digits = true
+hasDigits Stage.Behind = true
+
+abbrev pub nothingSeen : Seen
+nothingSeen = record { second = false; first = 0; stage = Stage.Start; value = 0 }
+
+-- the same part, the number at hand at another stage
+abbrev pub movedTo : Seen → Stage → ℕ → Seen
+movedTo s stage v = record { second = s .second; first = s .first; stage = stage; value = v }
+
+abbrev pub digitStep : Seen → ℕ → Step
+digitStep s b =
+    cond (isBehind (s .stage)) Step.Bad
+    (cond (leb (s .value * 10 + (b - 48)) largest) (Step.Next (movedTo s Stage.Digits (s .value * 10 + (b - 48)))) Step.Bad)
+
+abbrev pub blankAt : Stage → Seen → Step
+blankAt Stage.Start s = Step.Next (movedTo s Stage.Start (s .value))
+blankAt Stage.Plus s = Step.Bad
+blankAt Stage.Digits s = Step.Next (movedTo s Stage.Behind (s .value))
+blankAt Stage.Behind s = Step.Next (movedTo s Stage.Behind (s .value))
+
+abbrev pub blankStep : Seen → Step
+blankStep s = blankAt (s .stage) s
+
+abbrev pub plusAt : Stage → Seen → Step
+plusAt Stage.Start s = Step.Next (movedTo s Stage.Plus (s .value))
+plusAt Stage.Plus s = Step.Bad
+plusAt Stage.Digits s = Step.Bad
+plusAt Stage.Behind s = Step.Bad
+
+abbrev pub plusStep : Seen → Step
+plusStep s = plusAt (s .stage) s
+
+-- the number at hand becomes the first of two
+abbrev pub dashStep : Seen → Step
+dashStep s =
+    cond (s .second) Step.Bad
+    (cond (hasDigits (s .stage)) (Step.Next (record { second = true; first = s .value; stage = Stage.Start; value = 0 })) Step.Bad)
+
+-- a byte that is neither a digit nor a comma; "-" is 2D, "+" is 2B
+abbrev pub otherStep : Seen → ℕ → Step
+otherStep s b = cond (isBlank b) (blankStep s) (cond (eqb b 45) (dashStep s) (cond (eqb b 43) (plusStep s) Step.Bad))
+
+abbrev pub byteStep : Seen → ℕ → Step
+byteStep s b = cond (isDigit b) (digitStep s b) (otherStep s b)
+
+-- a part that ends behind its "-", and one that has none
+abbrev pub pairEnd : ℕ → ℕ → PartEnd
+pairEnd first second = cond (leb first second) (PartEnd.Counts 1) PartEnd.Bad
+
+abbrev pub singleEnd : Stage → PartEnd
+singleEnd Stage.Start = PartEnd.Counts 0
+singleEnd Stage.Plus = PartEnd.Bad
+singleEnd Stage.Digits = PartEnd.Counts 1
+singleEnd Stage.Behind = PartEnd.Counts 1
+
+abbrev pub partEnd : Seen → PartEnd
+partEnd s =
+    cond (s .second) (cond (hasDigits (s .stage)) (pairEnd (s .first) (s .value)) PartEnd.Bad) (singleEnd (s .stage))
