@@ -198,7 +198,7 @@ pub fn host_number(o: OptionU64) -> HostNumber
 pub fn is_number_known(h: HostNumber) -> bool
     ensures { λ r. ⌜ r ≡ numberKnown h ⌝ }
 {
-    h.present <= 1
+    h.present <= 1 // with any value
 }
 
 pub fn option_place(h: HostPlace) -> OptionPlace
@@ -216,7 +216,7 @@ pub fn option_place(h: HostPlace) -> OptionPlace
 pub fn is_place_known(h: HostPlace) -> bool
     ensures { λ r. ⌜ r ≡ placeKnown h ⌝ }
 {
-    h.present <= 1
+    h.present <= 1 // with any phase and position
 }
 
 pub fn host_place(o: OptionPlace) -> HostPlace

@@ -4,10 +4,11 @@ use mathlib.Core.Path.{_≡_, refl, sym, ap, ap₂, subst, _∙_}
 use mathlib.Core.Bool.{Bool, true, false, not, cond, _&&_, _||_}
 use mathlib.Core.List.{List, [], _∷_, _++_, append-assoc, append-nil}
 use native.Mathlib.Omega.{arith}
+use native.Mathlib.Nat.{add-zero}
 use mir.Syntax.{w64}
 use mir.Val.{Fits}
 use lib.Dec.{eqb}
-use lib.ListN.{length, take, drop, length-append, length-take, drop-of-length-le}
+use lib.ListN.{length, take, drop, length-append, length-take, drop-of-length-le, take-append-drop}
 use lib.Seq.{drop-append-le, take-all}
 use Rattle.reading.specs.declared.DisruptiveOutcome.{DisruptiveOutcome}
 use Rattle.reading.specs.declared.DataEntry.{DataEntry}
@@ -41,11 +42,12 @@ use Rattle.members.proofs.WordLaws.{length-journal-words, journal-words-append,
 use Rattle.members.proofs.WordLaws.{journal-part}
 use Rattle.visit.specs.declared.State.{State}
 use Rattle.visit.specs.declared.Visited.{Visited}
-use Rattle.visit.specs.Found.{entryBy, foundAt}
+use Rattle.visit.specs.Found.{entryBy, foundAt, leadsOn}
 use Rattle.unit.specs.declared.Closed.{Closed}
 use Rattle.unit.specs.Closed.{Wrote}
 use Rattle.stopping.specs.declared.Ending.{Ending}
 use Rattle.stopping.specs.Ends.{endBy}
+use Rattle.stopping.specs.Ends as ends
 use Rattle.intervention.specs.Stopped.{stoppedBy}
 use Rattle.phase.specs.declared.Transaction.{Transaction}
 use Rattle.phase.specs.Walked.{visitsFrom, Ready, isGoing, isErrs, isAllows, endedBy, Walked}
@@ -76,6 +78,38 @@ and-by false b e = e
 not-by : (b : Bool) → not b ≡ false → b ≡ true
 not-by true e = refl
 not-by false e = absurd (true-false e)
+
+take-none : {A : Type 0} (n : ℕ) → take {A = A} n [] ≡ []
+take-none zero = refl
+take-none (suc n) = refl
+
+-- where no unit closes, nothing is written
+wrote-none : (q : Call) (closes : Bool) (unit : List ℕ) (behind : ℕ) (ids entries : List ℕ) → closes ≡ false
+    → Wrote q closes unit behind ids entries
+    (record { ids = 0; entries = 0; next = behind; disruptive = DisruptiveOutcome.Nothing }) ids entries
+wrote-none q true unit behind ids entries e = absurd (true-false e)
+wrote-none q false unit behind ids entries e = record {
+  id-count = rw (take-none (length ids));
+  ids-are = rw (take-none (length ids));
+  entry-count = rw (take-none (length entries / 4));
+  entries-are = rw (take-none (length entries / 4));
+  next-is = refl;
+  disruptive-is = refl;
+}
+
+became-none : (c : Controls) (closes : Bool) (x : plain.Controls) → closes ≡ false → Became c c (cond closes x (controlsOf c))
+became-none c true x e = absurd (true-false e)
+became-none c false x e = became-same c
+
+-- a visit that leads on closes nothing, and its rule had no error
+leads-by : (found : Verdict) (closes : Bool) → (closes ≡ true → found ≡ Verdict.Matched) → leadsOn found ≡ true
+    → (closes ≡ false) × (ends.isError found ≡ false)
+leads-by Verdict.Missed false m e = (refl, refl)
+leads-by Verdict.Missed true m e = absurd (true-false (ap leadsOn (m refl)))
+leads-by Verdict.Matched closes m e = absurd (true-false (sym e))
+leads-by Verdict.Removed false m e = (refl, refl)
+leads-by Verdict.Removed true m e = absurd (true-false (ap leadsOn (m refl)))
+leads-by Verdict.Error closes m e = absurd (true-false (sym e))
 
 -- what is known where a turn's rule has been visited: the call, how far the walk was, and what was found
 pub record Turning : Type 0 where
@@ -681,6 +715,33 @@ module _ (turn : Turning) where
             entry-now : (b : Bool) → cond b (w .after .first) (visits + 1) ≤ visits + 1
             entry-now true = omega (arith, first-now, so .entry)
             entry-now false = omega arith
+
+    -- A VISIT THAT LEADS ON
+    led : leadsOn found ≡ true → (w .closes ≡ false) × (ends.isError found ≡ false)
+    led = leads-by found (w .closes) (closes-matched q reading (so .members) (controlsOf c) s visits inside found found-is w w-is)
+
+    pub sofar-on : leadsOn found ≡ true
+        → Sofar q t ids₀ entries₀ journal₀ ids entries journal′ c (w .after) (visits + 1) listed written
+    sofar-on h =
+        let d = led h in
+        let il : List ℕ = take (length ids - listed) (drop listed ids) in
+        let el : List ℕ = take (length entries - 4 * written) (drop (4 * written) entries) in
+        let u-is = wrote-none q (w .closes) part (w .after .next) il el (d .0) in
+        let same : Became c c (v .after .controls) = changed c (became-none c (w .closes) _ (d .0)) in
+        let ids-same : take listed ids ++ (il ++ drop (length ids - listed) (drop listed ids)) ≡ ids =
+        rw (take-append-drop (length ids - listed) (drop listed ids), take-append-drop listed ids) in
+        let entries-same : take (4 * written) entries ++ (el ++ drop (length entries - 4 * written) (drop (4 * written) entries)) ≡ entries =
+        rw (take-append-drop (length entries - 4 * written) (drop (4 * written) entries), take-append-drop (4 * written) entries) in
+        rw (ids-same, entries-same, add-zero listed, add-zero written) at
+        (sofar-more (record { ids = 0; entries = 0; next = w .after .next; disruptive = DisruptiveOutcome.Nothing }) il el u-is c same
+        Ending.GoesOn (rw (d .1)) (so .not-off))
+
+    pub fewer-left-on : leadsOn found ≡ true → (n : ℕ) → s .next < n → n - w .after .next < n - s .next
+    fewer-left-on h =
+        let il : List ℕ = take (length ids - listed) (drop listed ids) in
+        let el : List ℕ = take (length entries - 4 * written) (drop (4 * written) entries) in
+        fewer-left (record { ids = 0; entries = 0; next = w .after .next; disruptive = DisruptiveOutcome.Nothing }) il el
+        (wrote-none q (w .closes) part (w .after .next) il el (led h .0))
 
 -- the rule that the loop stands at, by the code's test
 pub inside-rules : (rules : List ℕ) (i : ℕ) → i < length rules / 5 → i < length (ruleList rules)

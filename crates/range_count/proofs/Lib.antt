@@ -3,3 +3,4 @@ pub mod Numbers
 pub mod Dashes
 pub mod Bytes
 pub mod Passing
+pub mod Commas

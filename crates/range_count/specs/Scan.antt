@@ -1,7 +1,8 @@
 -- The pass of `count_ranges`: what each byte makes of what is seen of a part. That the pass counts what `removalValue` says
--- is proved in proofs/Passing.antt: nobody needs to believe this page.
-use Prim.Native.Nat.{ℕ, _+_, _-_, _*_}
+-- is proved in proofs/Passing.antt and Commas.antt: nobody needs to believe this page.
+use Prim.Native.Nat.{ℕ, suc, _+_, _-_, _*_}
 use mathlib.Core.Bool.{Bool, true, false, cond}
+use mathlib.Core.List.{List, [], _∷_}
 use lib.Dec.{leb, eqb}
 use Rattle.reading.specs.Text.{isBlank, isDigit, largest}
 use Rattle.range_count.specs.declared.Stage.{Stage}
@@ -77,3 +78,8 @@ singleEnd Stage.Behind = PartEnd.Counts 1
 abbrev pub partEnd : Seen → PartEnd
 partEnd s =
     cond (s .second) (cond (hasDigits (s .stage)) (pairEnd (s .first) (s .value)) PartEnd.Bad) (singleEnd (s .stage))
+
+-- how many commas a list begins with; "," is 2C
+unfoldable pub leadingCommas : List ℕ → ℕ
+leadingCommas [] = 0
+leadingCommas (b ∷ s) = cond (eqb b 44) (suc (leadingCommas s)) 0

@@ -1,11 +1,12 @@
 // How many ranges a list of ids has, the value of `ctl:ruleRemoveById` (`parse_id_ranges`): one pass over its bytes, which are
 // most of what a large call reads. Crate ranges writes the ranges of a list that was counted.
 ghost use mathlib.Core.Path.{_≡_};
-ghost use Prim.Native.Nat.{_≤_};
+ghost use Prim.Native.Nat.{_≤_, _+_};
+ghost use lib.ListN.{drop};
 ghost use Rattle.reading.specs.Text.{isDigit};
 ghost use Rattle.reading.specs.Directive.{removalValue};
 ghost use Rattle.range_count.specs.Count.{countOf, countIn};
-ghost use Rattle.range_count.specs.Scan.{isBehind, hasDigits, nothingSeen, movedTo, digitStep, blankStep, dashStep, plusStep, otherStep, pairEnd, partEnd};
+ghost use Rattle.range_count.specs.Scan.{isBehind, hasDigits, nothingSeen, movedTo, digitStep, blankStep, dashStep, plusStep, otherStep, pairEnd, partEnd, leadingCommas};
 
 // How far into a number the pass is: before it, behind its '+', in its digits, in the blanks behind it.
 pub enum Stage {
@@ -214,7 +215,22 @@ fn counted(n: usize) -> RangeCount
     RangeCount::Ranges(n)
 }
 
-// How many ranges a list has, or that it is unsupported.
+// The index behind the commas that stand from an index on. Empty parts count nothing, so a run of commas is passed at once.
+fn past_commas(value: &[u8], at: usize) -> usize
+    ensures { λ r. ⌜ r ≡ at + leadingCommas (drop at (now (value .entry))) ⌝ }
+{
+    let mut i = at;
+    while i < value.len() {
+        if value[i] != b',' {
+            return i;
+        }
+        i += 1;
+    }
+    i
+}
+
+// How many ranges a list has, or that it is unsupported. More commas are looked for only behind an empty part: most parts are
+// numbers, and a look behind each would slow them.
 pub fn count_ranges(value: &[u8]) -> RangeCount
     ensures { λ r. ⌜ r ≡ countIn (removalValue (now (value .entry))) ⌝ }
 {
@@ -231,6 +247,9 @@ pub fn count_ranges(value: &[u8]) -> RangeCount
             };
             n += k;
             seen = nothing_seen();
+            if k == 0 {
+                i = past_commas(value, i);
+            }
             continue;
         }
         if is_digit(b) {

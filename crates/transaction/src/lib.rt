@@ -106,6 +106,11 @@ fn walk_rules(
             journal,
         );
         visits += 1;
+        if visit::leads_on(v) {
+            let after = v.after; // nothing closes, and nothing ends
+            s = after;
+            continue;
+        }
         let from = 2 * v.after.first;
         let to = 2 * visits;
         let members = &journal[from..to];

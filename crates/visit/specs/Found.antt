@@ -37,3 +37,10 @@ foundAt rules at visits found =
     (foundBy (at .next + 1) (at .next + chainRest (drop (at .next) rules)) (at .chained) (entryBy at visits) found
     (eqb (getD rules (at .next) noRule .link) 1))
     (passed found (at .next) (at .chained) (entryBy at visits))
+
+-- a rule that is found to be so closes no unit and ends nothing
+abbrev pub leadsOn : Verdict → Bool
+leadsOn Verdict.Missed = true
+leadsOn Verdict.Matched = false
+leadsOn Verdict.Removed = true
+leadsOn Verdict.Error = false

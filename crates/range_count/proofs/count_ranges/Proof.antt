@@ -1,5 +1,5 @@
 use borrow.Author.Needs.{needs}
-use Prim.Native.Nat.{ℕ, suc, _-_, _≤_, _<_}
+use Prim.Native.Nat.{ℕ, suc, _+_, _-_, _≤_, _<_}
 use mathlib.Core.Path.{_≡_, sym, _∙_}
 use mathlib.Core.List.{List}
 use native.Mathlib.Omega.{arith}
@@ -14,6 +14,7 @@ use Rattle.range_count.specs.Count.{countOf, countIn}
 use Rattle.range_count.specs.Scan.{nothingSeen}
 use Rattle.range_count.proofs.Bytes.{digit-byte, few}
 use Rattle.range_count.proofs.Passing.{afterPart, afterStep, scan, pass-counts, turn-digit, turn-other, turn-comma, turn-end}
+use Rattle.range_count.proofs.Commas.{passed-inside, passed-counts}
 use Rattle.range_count.proofs.count_ranges.Statement.{statement}
 use Rattle.range_count.proofs.count_ranges.Tie as tie
 
@@ -65,7 +66,7 @@ digit-turn c step e =
     let else = c .before .before .before in
     let at = else .before in
     held at ∙ turn-digit (value at) (seen at) (number at) (index at) (inside at) step (else .if1 .left)
-    (sym (c .before .before .is-digit .ensures) ∙ c .before .if2 .taken) (sym (c .on-digit .ensures) ∙ e)
+    (sym (c .before .before .is-digit .ensures) ∙ c .before .if3 .taken) (sym (c .on-digit .ensures) ∙ e)
 
 other-turn : (c : tie.After-on-other Inv-loop μ-loop) (step : Step) → c .on-other .result ≡ step
     → (let at = c .before .before .before .before in
@@ -74,7 +75,7 @@ other-turn c step e =
     let else = c .before .before .before in
     let at = else .before in
     held at ∙ turn-other (value at) (seen at) (number at) (index at) (inside at) step (else .if1 .left)
-    (sym (c .before .before .is-digit .ensures) ∙ c .before .if2 .left) (sym (c .on-other .ensures) ∙ e)
+    (sym (c .before .before .is-digit .ensures) ∙ c .before .if3 .left) (sym (c .on-other .ensures) ∙ e)
 
 end-turn : (c : tie.After-part-end2 Inv-loop μ-loop) (end : PartEnd) → c .part-end2 .result ≡ end
     → (let at = c .before .before in
@@ -90,6 +91,12 @@ part-few : (c : tie.After-k Inv-loop μ-loop) → c .k .given .0 .0 ≤ 1
 part-few c =
     let at = c .before .before in
     few (seen (at .before .before)) (c .k .given .0 .0) (sym (at .part-end .ensures) ∙ c .k .given .1)
+
+-- what is counted from behind a part on
+part-turn : (c : tie.After-k Inv-loop μ-loop)
+    → (let at = c .before .before .before .before in
+    countIn (removalValue (value at)) ≡ behind at nothingSeen (number at + c .k .given .0 .0))
+part-turn c = comma-turn (c .before .before) (PartEnd.Counts (c .k .given .0 .0)) (c .k .given .1)
 
 last-few : (c : tie.After-k2 Inv-loop μ-loop) → c .k2 .given .0 .0 ≤ 1
 last-few c =
@@ -128,20 +135,36 @@ add-n c = omega (arith, part-few (c .before))
 nothing-seen-requires-2 : tie.Need-nothing-seen-requires-2 Inv-loop μ-loop
 nothing-seen-requires-2 c κs = search needs
 
+past-commas-requires : tie.Need-past-commas-requires Inv-loop μ-loop
+past-commas-requires c κs = search needs
+
 loop-less : tie.Need-loop-less Inv-loop μ-loop
 loop-less c = omega arith
 
 loop-again : tie.Need-loop-again Inv-loop μ-loop
 loop-again c =
-    let k = c .before .before in
-    let e = comma-turn (k .before .before) (PartEnd.Counts (k .k .given .0 .0)) (k .k .given .1) in
-    simp (add-one, c .nothing-seen2 .ensures) (omega arith, omega (arith, part-few k), e)
+    let k = c .before .before .before .before in
+    let at = k .before .before .before .before in
+    let e = part-turn k in
+    simp (c .past-commas .ensures, add-one, c .before .before .nothing-seen2 .ensures) (
+      passed-inside (value at) (suc (index at)) (inside at),
+      omega (arith, part-few k),
+      e ∙ passed-counts (value at) (suc (index at)) (number at + k .k .given .0 .0),
+    )
+
+loop-less-2 : tie.Need-loop-less-2 Inv-loop μ-loop
+loop-less-2 c = omega arith
+
+loop-again-2 : tie.Need-loop-again-2 Inv-loop μ-loop
+loop-again-2 c =
+    let k = c .before .before .before in
+    simp (add-one, c .before .nothing-seen2 .ensures) (omega arith, omega (arith, part-few k), part-turn k)
 
 is-digit-requires : tie.Need-is-digit-requires Inv-loop μ-loop
 is-digit-requires c κs = search needs
 
 on-digit-requires : tie.Need-on-digit-requires Inv-loop μ-loop
-on-digit-requires c κs = digit-byte (byte (c .before .before .before)) (sym (c .before .is-digit .ensures) ∙ c .if2 .taken)
+on-digit-requires c κs = digit-byte (byte (c .before .before .before)) (sym (c .before .is-digit .ensures) ∙ c .if3 .taken)
 
 enum-known-next : tie.Need-enum-known-next Inv-loop μ-loop
 enum-known-next c = search needs
@@ -152,11 +175,11 @@ enum-told-2 c = search needs
 returns-2 : tie.Need-returns-2 Inv-loop μ-loop
 returns-2 c = sym (digit-turn (c .before .before) Step.Bad (c .enum-told2 .given .1))
 
-loop-less-2 : tie.Need-loop-less-2 Inv-loop μ-loop
-loop-less-2 c = omega arith
+loop-less-3 : tie.Need-loop-less-3 Inv-loop μ-loop
+loop-less-3 c = omega arith
 
-loop-again-2 : tie.Need-loop-again-2 Inv-loop μ-loop
-loop-again-2 c =
+loop-again-3 : tie.Need-loop-again-3 Inv-loop μ-loop
+loop-again-3 c =
     let t = c .before in
     let e = digit-turn (t .before .before) (Step.Next (t .next .given .0 .0)) (t .next .given .1) in
     simp add-one (omega arith, omega arith, e)
@@ -173,11 +196,11 @@ enum-told-3 c = search needs
 returns-3 : tie.Need-returns-3 Inv-loop μ-loop
 returns-3 c = sym (other-turn (c .before .before) Step.Bad (c .enum-told3 .given .1))
 
-loop-less-3 : tie.Need-loop-less-3 Inv-loop μ-loop
-loop-less-3 c = omega arith
+loop-less-4 : tie.Need-loop-less-4 Inv-loop μ-loop
+loop-less-4 c = omega arith
 
-loop-again-3 : tie.Need-loop-again-3 Inv-loop μ-loop
-loop-again-3 c =
+loop-again-4 : tie.Need-loop-again-4 Inv-loop μ-loop
+loop-again-4 c =
     let t = c .before in
     let e = other-turn (t .before .before) (Step.Next (t .next2 .given .0 .0)) (t .next2 .given .1) in
     simp add-one (omega arith, omega arith, e)
@@ -221,21 +244,24 @@ count-ranges-spec =
     returns
     add-n
     nothing-seen-requires-2
+    past-commas-requires
     loop-less
     loop-again
+    loop-less-2
+    loop-again-2
     is-digit-requires
     on-digit-requires
     enum-known-next
     enum-told-2
     returns-2
-    loop-less-2
-    loop-again-2
+    loop-less-3
+    loop-again-3
     on-other-requires
     enum-known-next-2
     enum-told-3
     returns-3
-    loop-less-3
-    loop-again-3
+    loop-less-4
+    loop-again-4
     part-end-requires-2
     enum-known-k-2
     enum-told-4

@@ -17,7 +17,7 @@ use Rattle.coded.specs.Lent.{Whole}
 use Rattle.stopping.specs.Ends.{endBy}
 use Rattle.members.specs.Given.{Rest}
 use Rattle.visit.specs.declared.Visited.{Visited}
-use Rattle.visit.specs.Found.{foundAt}
+use Rattle.visit.specs.Found.{foundAt, leadsOn}
 use Rattle.phase.specs.declared.Transaction.{Transaction}
 use Rattle.phase.specs.Phase.{callOf}
 use Rattle.phase.specs.Walked.{fresh, isGoing}
@@ -26,7 +26,7 @@ use Rattle.phase.proofs.Progress.{Sofar, sofar-none, sofar-end, few-ranges, jou
 use Rattle.phase.proofs.Turn.{Turning, inside-rules, behind-rules, journal-ahead, ids-start, entries-start, part-start, part-end}
 use Rattle.phase.proofs.Turn.{visits-fit, from-fits, from-fits-bytes, to-fits, listed-fits, written-fits, written-fits-bytes}
 use Rattle.phase.proofs.Turn.{listed-now-fits, written-now-fits, fewer-left, journal-kept, ids-kept, entries-kept, changed}
-use Rattle.phase.proofs.Turn.{sofar-last, sofar-more}
+use Rattle.phase.proofs.Turn.{sofar-last, sofar-more, sofar-on, fewer-left-on}
 use Rattle.transaction.proofs.walk_rules.Statement.{statement}
 use Rattle.transaction.proofs.walk_rules.Tie as tie
 
@@ -84,8 +84,11 @@ head c = c .before .before
 abbrev turning : tie.After-visit-next Inv-loop μ-loop → tie.Then1 Inv-loop μ-loop
 turning c = c .before .before .before .before
 
+abbrev seen : tie.After-struct-known2 Inv-loop μ-loop → tie.After-visit-next Inv-loop μ-loop
+seen c = c .before .before .before .before .before
+
 abbrev visited : tie.After-close-unit Inv-loop μ-loop → tie.After-visit-next Inv-loop μ-loop
-visited c = c .before .before .before .before .before .before .before .before
+visited c = seen (c .before .before .before .before .before)
 
 abbrev closed : tie.After-unit-controls Inv-loop μ-loop → tie.After-close-unit Inv-loop μ-loop
 closed c = c .before .before .before .before .before .before .before .before .before .before .before
@@ -154,6 +157,13 @@ turn c =
     turn-by (turning c) (c .visit-next .result)
     (verdict-found (Q h) (held-at h) (h .loop .s) (h .loop .visits) (few h) (c .visit-next .result) (c .visit-next .ensures .0))
     (visit-found (Q h) (held-at h) (h .loop .s) (h .loop .visits) (few h) (c .visit-next .result) (c .visit-next .ensures .0))
+
+-- a visit that leads on, seen from where it has
+abbrev passed : tie.After-after Inv-loop μ-loop → tie.After-visit-next Inv-loop μ-loop
+passed c = c .before .before .before .before .before
+
+on : (c : tie.After-after Inv-loop μ-loop) → leadsOn (passed c .visit-next .result .verdict) ≡ true
+on c = sym (c .before .before .leads-on .ensures) ∙ c .before .if2 .taken
 
 -- the lists at the head of a turn
 journal-as-lent : (c : tie.At-loop Inv-loop μ-loop) → length (c .loop .journal) ≡ length (now (entered c .args .journal))
@@ -240,47 +250,61 @@ visit-next-requires c κs =
 add-visits : tie.Need-add-visits Inv-loop μ-loop
 add-visits c = visits-fit (turn (c .before .before)) (journal-small (entered (head (turning (c .before .before)))))
 
+leads-on-requires : tie.Need-leads-on-requires Inv-loop μ-loop
+leads-on-requires c κs = tt
+
+loop-less : tie.Need-loop-less Inv-loop μ-loop
+loop-less c =
+    fewer-left-on (turn (passed c)) (passed c .visit-next .last .1 .1 .1 .1 .1 .1 .1 .0) (passed c .visit-next .ensures .1) (on c)
+    (length (now (entered (head (turning (passed c))) .args .rules)) / 5) (turning (passed c) .if1 .taken)
+
+loop-again : tie.Need-loop-again Inv-loop μ-loop
+loop-again c = (
+  sofar-on (turn (passed c)) (passed c .visit-next .last .1 .1 .1 .1 .1 .1 .1 .0) (passed c .visit-next .ensures .1) (on c),
+  head (turning (passed c)) .loop .inv .1,
+)
+
 mul-from : tie.Need-mul-from Inv-loop μ-loop
-mul-from c = from-fits (turn (c .before .before .before)) ((c .before .before .before) .visit-next .last .1 .1 .1 .1 .1 .1 .1 .0) ((c .before .before .before) .visit-next .ensures .1) (journal-small (entered (head (turning (c .before .before .before)))))
+mul-from c = from-fits (turn (seen c)) ((seen c) .visit-next .last .1 .1 .1 .1 .1 .1 .1 .0) ((seen c) .visit-next .ensures .1) (journal-small (entered (head (turning (seen c)))))
 
 mul-to : tie.Need-mul-to Inv-loop μ-loop
-mul-to c = to-fits (turn (c .before .before .before)) (journal-small (entered (head (turning (c .before .before .before)))))
+mul-to c = to-fits (turn (seen c)) (journal-small (entered (head (turning (seen c)))))
 
 mul-members : tie.Need-mul-members Inv-loop μ-loop
-mul-members c = from-fits-bytes (turn (c .before .before .before)) ((c .before .before .before) .visit-next .last .1 .1 .1 .1 .1 .1 .1 .0) ((c .before .before .before) .visit-next .ensures .1) (journal-small (entered (head (turning (c .before .before .before)))))
+mul-members c = from-fits-bytes (turn (seen c)) ((seen c) .visit-next .last .1 .1 .1 .1 .1 .1 .1 .0) ((seen c) .visit-next .ensures .1) (journal-small (entered (head (turning (seen c)))))
 
 sub-members : tie.Need-sub-members Inv-loop μ-loop
-sub-members c = part-start (turn (c .before .before .before)) ((c .before .before .before) .visit-next .last .1 .1 .1 .1 .1 .1 .1 .0) ((c .before .before .before) .visit-next .ensures .1)
+sub-members c = part-start (turn (seen c)) ((seen c) .visit-next .last .1 .1 .1 .1 .1 .1 .1 .0) ((seen c) .visit-next .ensures .1)
 
 part-members-start : tie.Need-part-members-start Inv-loop μ-loop
-part-members-start c = part-start (turn (c .before .before .before .before)) ((c .before .before .before .before) .visit-next .last .1 .1 .1 .1 .1 .1 .1 .0) ((c .before .before .before .before) .visit-next .ensures .1)
+part-members-start c = part-start (turn (seen (c .before))) ((seen (c .before)) .visit-next .last .1 .1 .1 .1 .1 .1 .1 .0) ((seen (c .before)) .visit-next .ensures .1)
 
 part-members-end : tie.Need-part-members-end Inv-loop μ-loop
-part-members-end c = part-end (turn (c .before .before .before .before)) ((c .before .before .before .before) .visit-next .last .1 .1 .1 .1 .1 .1 .1 .0) ((c .before .before .before .before) .visit-next .ensures .1)
+part-members-end c = part-end (turn (seen (c .before))) ((seen (c .before)) .visit-next .last .1 .1 .1 .1 .1 .1 .1 .0) ((seen (c .before)) .visit-next .ensures .1)
 
 mul-free : tie.Need-mul-free Inv-loop μ-loop
-mul-free c = written-fits (turn (c .before .before .before .before .before)) (entries-small (entered (head (turning (c .before .before .before .before .before)))))
+mul-free c = written-fits (turn (seen (c .before .before))) (entries-small (entered (head (turning (seen (c .before .before))))))
 
 mul-close-unit : tie.Need-mul-close-unit Inv-loop μ-loop
-mul-close-unit c = listed-fits (turn (c .before .before .before .before .before)) (ids-small (entered (head (turning (c .before .before .before .before .before)))))
+mul-close-unit c = listed-fits (turn (seen (c .before .before))) (ids-small (entered (head (turning (seen (c .before .before))))))
 
 sub-close-unit : tie.Need-sub-close-unit Inv-loop μ-loop
-sub-close-unit c = ids-start (turn (c .before .before .before .before .before))
+sub-close-unit c = ids-start (turn (seen (c .before .before)))
 
 part-close-unit-start : tie.Need-part-close-unit-start Inv-loop μ-loop
-part-close-unit-start c = ids-start (turn (c .before .before .before .before .before))
+part-close-unit-start c = ids-start (turn (seen (c .before .before)))
 
 part-close-unit-end : tie.Need-part-close-unit-end Inv-loop μ-loop
 part-close-unit-end c = le-refl _
 
 mul-close-unit-2 : tie.Need-mul-close-unit-2 Inv-loop μ-loop
-mul-close-unit-2 c = written-fits-bytes (turn (c .before .before .before .before .before .before)) (entries-small (entered (head (turning (c .before .before .before .before .before .before)))))
+mul-close-unit-2 c = written-fits-bytes (turn (seen (c .before .before .before))) (entries-small (entered (head (turning (seen (c .before .before .before))))))
 
 sub-close-unit-2 : tie.Need-sub-close-unit-2 Inv-loop μ-loop
-sub-close-unit-2 c = entries-start (turn (c .before .before .before .before .before .before))
+sub-close-unit-2 c = entries-start (turn (seen (c .before .before .before)))
 
 part-close-unit-start-2 : tie.Need-part-close-unit-start-2 Inv-loop μ-loop
-part-close-unit-start-2 c = entries-start (turn (c .before .before .before .before .before .before))
+part-close-unit-start-2 c = entries-start (turn (seen (c .before .before .before)))
 
 part-close-unit-end-2 : tie.Need-part-close-unit-end-2 Inv-loop μ-loop
 part-close-unit-end-2 c = le-refl _
@@ -354,22 +378,22 @@ returns c =
     (c .before .stopped .result)
     (c .before .stopped .ensures (now (entered (head (turning (visited (closed (settled (c .before .before .before)))))) .args .markers)) (now (entered (head (turning (visited (closed (settled (c .before .before .before)))))) .args .text)) (now (entered (head (turning (visited (closed (settled (c .before .before .before)))))) .args .outcomes))
     (restOf (Q (head (turning (visited (closed (settled (c .before .before .before)))))))) refl)
-    (last-by (c .before .before .before) true (c .before .before .if2 .taken)))
+    (last-by (c .before .before .before) true (c .before .before .if3 .taken)))
 
-loop-less : tie.Need-loop-less Inv-loop μ-loop
-loop-less c =
+loop-less-2 : tie.Need-loop-less-2 Inv-loop μ-loop
+loop-less-2 c =
     fewer-left (turn (visited (closed (settled (c .before))))) (visited (closed (settled (c .before))) .visit-next .last .1 .1 .1 .1 .1 .1 .1 .0) (visited (closed (settled (c .before))) .visit-next .ensures .1)
     ((closed (settled (c .before))) .close-unit .result) ((closed (settled (c .before))) .close-unit .last .1 .1 .1 .1 .1 .1 .1 .1 .1 .0) ((closed (settled (c .before))) .close-unit .last .1 .1 .1 .1 .1 .1 .1 .1 .1 .1 .0)
     ((closed (settled (c .before))) .close-unit .ensures (restOf (Q (head (turning (visited (closed (settled (c .before)))))))))
     (length (now (entered (head (turning (visited (closed (settled (c .before)))))) .args .rules)) / 5) (turning (visited (closed (settled (c .before)))) .if1 .taken)
 
-loop-again : tie.Need-loop-again Inv-loop μ-loop
-loop-again c = (
+loop-again-2 : tie.Need-loop-again-2 Inv-loop μ-loop
+loop-again-2 c = (
   sofar-more (turn (visited (closed (settled (c .before))))) (visited (closed (settled (c .before))) .visit-next .last .1 .1 .1 .1 .1 .1 .1 .0) (visited (closed (settled (c .before))) .visit-next .ensures .1)
       ((closed (settled (c .before))) .close-unit .result) ((closed (settled (c .before))) .close-unit .last .1 .1 .1 .1 .1 .1 .1 .1 .1 .0) ((closed (settled (c .before))) .close-unit .last .1 .1 .1 .1 .1 .1 .1 .1 .1 .1 .0)
       ((closed (settled (c .before))) .close-unit .ensures (restOf (Q (head (turning (visited (closed (settled (c .before)))))))))
       (held-now (settled (c .before))) (controls-now (settled (c .before))) (c .before .turn-end .result .ending) (end-is (c .before))
-      (last-by (c .before) false (c .if2 .left)),
+      (last-by (c .before) false (c .if3 .left)),
   whole-now (settled (c .before)),
 )
 
@@ -403,6 +427,9 @@ walk-rules-spec =
     loop-holds
     visit-next-requires
     add-visits
+    leads-on-requires
+    loop-less
+    loop-again
     mul-from
     mul-to
     mul-members
@@ -433,8 +460,8 @@ walk-rules-spec =
     same-length-2
     same-length-3
     returns
-    loop-less
-    loop-again
+    loop-less-2
+    loop-again-2
     ended-requires-2
     same-length-4
     same-length-5

@@ -1,0 +1,10 @@
+-- `asked::refused` meets its contract.
+use borrow.Author.Needs.{needs}
+use Rattle.asked.proofs.refused.Statement.{statement}
+use Rattle.asked.proofs.refused.Tie as tie
+
+returns : tie.Need-returns
+returns c = search needs
+
+pub refused-spec : {M : Type 1} → statement M
+refused-spec = tie.close (tie.spec returns)
