@@ -38,7 +38,7 @@ foundAt rules at visits found =
     (eqb (getD rules (at .next) noRule .link) 1))
     (passed found (at .next) (at .chained) (entryBy at visits))
 
--- a rule that is found to be so closes no unit and ends nothing
+-- missed or removed: such a visit closes no unit and ends nothing
 abbrev pub leadsOn : Verdict → Bool
 leadsOn Verdict.Missed = true
 leadsOn Verdict.Matched = false
