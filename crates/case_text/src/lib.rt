@@ -236,8 +236,33 @@ fn same(a: &[u8], b: &[u8]) -> bool {
     true
 }
 
-pub fn is_word(s: &[u8], words: &[u64; 8], k: usize, spelling: &[u8]) -> bool {
+fn is_word(s: &[u8], words: &[u64; 8], k: usize, spelling: &[u8]) -> bool {
     same(parts::part_of(s, part_at(words, k)), spelling)
+}
+
+// Which of at most eight spellings, with a blank between them, a word is, or how many there are.
+pub fn word_among(s: &[u8], words: &[u64; 8], k: usize, spellings: &[u8]) -> usize
+    ensures { λ r. ⌜ r ≤ 8 ⌝ }
+{
+    let word = parts::part_of(s, part_at(words, k));
+    let mut at = 0;
+    let mut i = 0;
+    while i < 8 {
+        let end = find_byte(spellings, b' ', at, spellings.len());
+        let spelling = Part {
+            start: at as u64,
+            len: (end - at) as u64,
+        };
+        if same(word, parts::part_of(spellings, spelling)) {
+            return i;
+        }
+        i += 1;
+        if spellings.len() <= end {
+            return i;
+        }
+        at = end + 1;
+    }
+    8
 }
 
 pub fn is_comment(s: &[u8], words: &[u64; 8]) -> bool {
@@ -282,16 +307,7 @@ pub fn read_name(words: &[u64; 8], n: usize, c: Case) -> Step {
 
 // 3 where the word is no mode.
 fn mode_at(s: &[u8], words: &[u64; 8], k: usize) -> u64 {
-    if is_word(s, words, k, b"On") {
-        return 0;
-    }
-    if is_word(s, words, k, b"DetectionOnly") {
-        return 1;
-    }
-    if is_word(s, words, k, b"Off") {
-        return 2;
-    }
-    3
+    word_among(s, words, k, b"On DetectionOnly Off") as u64
 }
 
 fn read_mode(s: &[u8], words: &[u64; 8], n: usize, c: Case) -> Step {
@@ -363,36 +379,18 @@ fn read_call(s: &[u8], words: &[u64; 8], n: usize, c: Case) -> Step {
 
 // A line of a case before its call.
 pub fn read_setting(s: &[u8], words: &[u64; 8], n: usize, c: Case) -> Step {
-    if is_word(s, words, 0, b"mode") {
-        return read_mode(s, words, n, c);
+    match word_among(s, words, 0, b"mode block-status entry-range call") {
+        0 => read_mode(s, words, n, c),
+        1 => read_status(s, words, n, c),
+        2 => read_range(s, words, n, c),
+        3 => read_call(s, words, n, c),
+        _ => Step::Bad,
     }
-    if is_word(s, words, 0, b"block-status") {
-        return read_status(s, words, n, c);
-    }
-    if is_word(s, words, 0, b"entry-range") {
-        return read_range(s, words, n, c);
-    }
-    if is_word(s, words, 0, b"call") {
-        return read_call(s, words, n, c);
-    }
-    Step::Bad
 }
 
 // 4 where the word is no outcome.
 fn outcome_at(s: &[u8], words: &[u64; 8], k: usize) -> u8 {
-    if is_word(s, words, k, b"missed") {
-        return 0;
-    }
-    if is_word(s, words, k, b"matched") {
-        return 1;
-    }
-    if is_word(s, words, k, b"matched-var") {
-        return 2;
-    }
-    if is_word(s, words, k, b"error") {
-        return 3;
-    }
-    4
+    word_among(s, words, k, b"missed matched matched-var error") as u8
 }
 
 fn put_rule(rules: &mut [u64; 80], k: usize, present: u64, id: u64, link: u64, first: u64) {
@@ -563,31 +561,17 @@ pub fn ctl_action(s: &[u8], words: &[u64; 8], n: usize) -> Read {
 
 // The actions that the cases have.
 fn action_of(s: &[u8], words: &[u64; 8], n: usize) -> Read {
-    if is_word(s, words, 0, b"deny") {
-        return plain_action(1, n);
+    match word_among(s, words, 0, b"deny pass allow skip skipAfter id ctl status") {
+        0 => plain_action(1, n),
+        1 => plain_action(3, n),
+        2 => plain_action(4, n),
+        3 => number_action(8, s, words, n),
+        4 => skip_after_action(s, words, n),
+        5 => number_action(11, s, words, n),
+        6 => ctl_action(s, words, n),
+        7 => number_action(20, s, words, n),
+        _ => Read::Bad,
     }
-    if is_word(s, words, 0, b"pass") {
-        return plain_action(3, n);
-    }
-    if is_word(s, words, 0, b"allow") {
-        return plain_action(4, n);
-    }
-    if is_word(s, words, 0, b"skip") {
-        return number_action(8, s, words, n);
-    }
-    if is_word(s, words, 0, b"skipAfter") {
-        return skip_after_action(s, words, n);
-    }
-    if is_word(s, words, 0, b"id") {
-        return number_action(11, s, words, n);
-    }
-    if is_word(s, words, 0, b"ctl") {
-        return ctl_action(s, words, n);
-    }
-    if is_word(s, words, 0, b"status") {
-        return number_action(20, s, words, n);
-    }
-    Read::Bad
 }
 
 fn put_action(actions: &mut [u64; 384], k: usize, a: Action) {

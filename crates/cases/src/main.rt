@@ -77,9 +77,10 @@ fn run_records(
     write_after(p, &ids, &entries);
 }
 
-// A case at its `end`.
+// A case at its `end`, which stands alone in its line.
 fn run_case(
     s: &[u8],
+    words: usize,
     c: Case,
     rules: &[u64; 80],
     actions: &[u64; 384],
@@ -89,6 +90,9 @@ fn run_case(
     let n = c.rules;
     let a = c.actions;
     let m = c.markers;
+    if words != 1 {
+        return Step::Bad;
+    }
     if 16 < n {
         return Step::Bad;
     }
@@ -128,13 +132,11 @@ fn run_directive(s: &[u8], words: &[u64; 8], n: usize, c: Case) -> Step {
 }
 
 fn run_outside(s: &[u8], words: &[u64; 8], n: usize, c: Case) -> Step {
-    if case_text::is_word(s, words, 0, b"ctl") {
-        return run_directive(s, words, n, c);
+    match case_text::word_among(s, words, 0, b"ctl case") {
+        0 => run_directive(s, words, n, c),
+        1 => case_text::read_name(words, n, c),
+        _ => Step::Bad,
     }
-    if case_text::is_word(s, words, 0, b"case") {
-        return case_text::read_name(words, n, c);
-    }
-    Step::Bad
 }
 
 fn run_inside(
@@ -150,19 +152,12 @@ fn run_inside(
     if c.phase == 0 {
         return case_text::read_setting(s, words, n, c);
     }
-    if case_text::is_word(s, words, 0, b"rule") {
-        return case_text::read_rule(s, words, n, c, rules, outcomes);
+    match case_text::word_among(s, words, 0, b"rule marker end") {
+        0 => case_text::read_rule(s, words, n, c, rules, outcomes),
+        1 => case_text::read_marker(s, words, n, c, markers),
+        2 => run_case(s, n, c, rules, actions, markers, outcomes),
+        _ => case_text::read_action(s, words, n, c, rules, actions),
     }
-    if case_text::is_word(s, words, 0, b"marker") {
-        return case_text::read_marker(s, words, n, c, markers);
-    }
-    if case_text::is_word(s, words, 0, b"end") {
-        if n != 1 {
-            return Step::Bad;
-        }
-        return run_case(s, c, rules, actions, markers, outcomes);
-    }
-    case_text::read_action(s, words, n, c, rules, actions)
 }
 
 // One line.
