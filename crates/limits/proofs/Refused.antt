@@ -1,13 +1,13 @@
 -- Refusals 8 and 9, counted by the actions' codes.
-use Prim.Native.Nat.{ℕ, zero, suc, _+_, _≤_, min}
+use Prim.Native.Nat.{ℕ, suc, _+_, _≤_, min}
 use mathlib.Core.Path.{_≡_, refl, sym, ap, fun-ext, _∙_}
 use mathlib.Core.Bool.{Bool, true, false, cond}
 use mathlib.Core.List.{List, [], _∷_, _++_, map}
 use native.Mathlib.Omega.{arith}
 use borrow.Author.Tests.{lt-ltb, le-ltb, ltb-true, ltb-false, ne-eqb}
 use lib.Dec.{ltb, eqb}
-use lib.ListN.{length, take, drop, replicate, length-append, length-drop, length-map, length-replicate}
-use lib.Seq.{take-all, take-nil, take-at}
+use lib.ListN.{length, take, drop, length-map}
+use lib.Seq.{take-all, take-at}
 use Rattle.reading.specs.declared.Action.{Action}
 use Rattle.reading.specs.declared.Rule.{Rule}
 use Rattle.reading.specs.declared.RuleEngineMode.{RuleEngineMode}
@@ -22,8 +22,8 @@ use Rattle.reading.specs.Actions.{Placed, placedFrom, actionsOf, controlsIn, di
 use Rattle.reading.specs.Call.{Call}
 use Rattle.reading.specs.Refusals.{ruleTotal, refused8, refused9}
 use Rattle.digest.specs.Codes.{codeOf, codeAt, codesOf}
-use Rattle.limits.specs.Weights.{rangesCoded, targetsCoded, ruleWeight}
-use Rattle.digest.proofs.TotalLaws.{take-map, drop-map, total-map, total-part-le, total-drop-le}
+use Rattle.limits.specs.Weights.{rangesCoded, targetsCoded, ruleWeight, addsBeyond, limitRefusal}
+use Rattle.digest.proofs.TotalLaws.{take-map, drop-map, total-map}
 
 -- what an action adds: so much by its directive if it is a ctl action, else nothing
 abbrev added : (Directive → ℕ) → List ℕ → Action → ℕ
@@ -122,96 +122,52 @@ module _ (text : List ℕ) (a : Action) where
       go true = targets-by (partOf text (a .value)) d
       go false = refl
 
--- entries that weigh nothing, behind others
-module _ (w : ℕ → ℕ) (none : List ℕ) (z : total w none ≡ 0) where
-  front-weight : (count : ℕ) (l : List ℕ) → total w (take count (l ++ none)) ≡ total w (take count l)
-  front-weight count [] = rw take-nil (omega (arith, total-part-le w 0 count none))
-  front-weight zero (x ∷ l) = refl
-  front-weight (suc count) (x ∷ l) = ap (λ (n : ℕ). w x + n) (front-weight count l)
-
-  part-weight : (first count : ℕ) (l : List ℕ) → total w (take count (drop first (l ++ none))) ≡ total w
-      (take count (drop first l))
-  part-weight zero count l = front-weight count l
-  part-weight (suc first) count [] = rw take-nil (omega (arith, total-part-le w (suc first) count none))
-  part-weight (suc first) count (x ∷ l) = part-weight first count l
-
-zeros-weigh : (w : ℕ → ℕ) → w 0 ≡ 0 → (n : ℕ) → total w (replicate n 0) ≡ 0
-zeros-weigh w z zero = refl
-zeros-weigh w z (suc n) = omega (arith, z, zeros-weigh w z n)
-
--- a list of codes by which each rule weighs as much as the codes of its own actions
-abbrev Coded : Call → List ℕ → Type 0
-Coded q codes = (w : ℕ → ℕ) → w 0 ≡ 0 → (r : Rule)
-    → ruleWeight w codes r ≡ total (λ a. w (codeAt (q .text) a)) (take (r .count) (drop (r .first) (q .actions)))
-
-coded-all : (q : Call) → Coded q (codesOf (q .text) (q .actions))
-coded-all q w z r =
+-- what a rule weighs by the codes of all actions
+rule-coded : (q : Call) (w : ℕ → ℕ) (r : Rule)
+    → ruleWeight w (codesOf (q .text) (q .actions)) r ≡ total (λ a. w (codeAt (q .text) a)) (take (r .count) (drop (r .first) (q .actions)))
+rule-coded q w r =
     let code = codeAt (q .text) in
     let part : take (r .count) (drop (r .first) (map code (q .actions))) ≡ map code
     (take (r .count) (drop (r .first) (q .actions)))
     = ap (take (r .count)) (drop-map code (r .first) (q .actions)) ∙ take-map code (r .count) (drop (r .first) (q .actions)) in
     ap (total w) part ∙ total-map code w (take (r .count) (drop (r .first) (q .actions)))
 
-module _ (n : ℕ) (q : Call) (few : length (q .actions) ≤ n) where
-  few-codes : length (codesOf (q .text) (q .actions)) ≤ n
-  few-codes = omega (arith, length-map (q .actions) (codeAt (q .text)))
+module _ (q : Call) where
+  abbrev codes : List ℕ
+  codes = codesOf (q .text) (q .actions)
 
-  coded-first : Coded q (take n (codesOf (q .text) (q .actions)))
-  coded-first w z r = rw (take-all n (codesOf (q .text) (q .actions)) few-codes) (coded-all q w z r)
+  abbrev ranges : ℕ
+  ranges = length (q .transaction .controls .ranges)
 
-  -- the same with zeros behind them
-  coded-over : Coded q (take n (over (replicate n 0) (codesOf (q .text) (q .actions))))
-  coded-over w z r =
-      let codes = codesOf (q .text) (q .actions) in
-      let none : List ℕ = drop (length codes) (replicate n 0) in
-      let light : total w none ≡ 0 = omega (arith, total-drop-le w (length codes) (replicate n 0), zeros-weigh w z n) in
-      let whole : take n (codes ++ none) ≡ codes ++ none
-      = take-all n (codes ++ none) (simp (length-append, length-drop, length-replicate) (omega (arith, few-codes))) in
-      ap (λ (l : List ℕ). ruleWeight w l r) whole
-      ∙ (part-weight w none light (r .first) (r .count) codes ∙ coded-all q w z r)
+  abbrev targets : ℕ
+  targets = length (q .transaction .controls .targets)
 
-module _ (q : Call) (codes : List ℕ) (coded : Coded q codes) where
   ranges-rule : (r : Rule) → Alike (ruleWeight rangesCoded codes r) (ruleTotal q rangeCount r)
   ranges-rule r =
-      ap (λ (m : ℕ). min m 257) (coded rangesCoded refl r)
+      ap (λ (m : ℕ). min m 257) (rule-coded q rangesCoded r)
       ∙ (total-alike _ _ (ranges-coded (q .text)) (take (r .count) (drop (r .first) (q .actions)))
       ∙ ap (λ (m : ℕ). min m 257) (sym (rule-total q rangeCount r)))
 
   targets-rule : (r : Rule) → ruleWeight targetsCoded codes r ≡ ruleTotal q targetCount r
   targets-rule r =
-      coded targetsCoded refl r
+      rule-coded q targetsCoded r
       ∙ (ap (λ (w : Action → ℕ). total w (take (r .count) (drop (r .first) (q .actions)))) (fun-ext (targets-coded (q .text)))
       ∙ sym (rule-total q targetCount r))
 
-  ranges-exceed : ltb 256 (length (q .transaction .controls .ranges) + total (ruleWeight rangesCoded codes) (q .rules)) ≡ refused8
-      q
+  ranges-exceed : addsBeyond rangesCoded 256 ranges (q .rules) codes ≡ refused8 q
   unfolding refused8
-  ranges-exceed = exceeds-alike (length (q .transaction .controls .ranges)) _ _ (total-alike _ _ ranges-rule (q .rules))
+  ranges-exceed = exceeds-alike ranges _ _ (total-alike _ _ ranges-rule (q .rules))
 
-  targets-exceed : ltb 64 (length (q .transaction .controls .targets) + total (ruleWeight targetsCoded codes) (q .rules)) ≡
-      refused9 q
+  targets-exceed : addsBeyond targetsCoded 64 targets (q .rules) codes ≡ refused9 q
   unfolding refused9
-  targets-exceed =
-      ap (λ (w : Rule → ℕ). ltb 64 (length (q .transaction .controls .targets) + total w (q .rules))) (fun-ext targets-rule)
+  targets-exceed = ap (λ (w : Rule → ℕ). ltb 64 (targets + total w (q .rules))) (fun-ext targets-rule)
 
-module _ (q : Call) (few : length (q .actions) ≤ 4096) where
-  -- by the codes of a call's actions in a list of 4,096
-  pub refused8-is : ltb 256 (length (q .transaction .controls .ranges) + total
-      (ruleWeight rangesCoded (take 4096 (over (replicate 4096 0) (codesOf (q .text) (q .actions))))) (q .rules)) ≡ refused8 q
-  refused8-is = ranges-exceed q _ (coded-over 4096 q few)
-
-  pub refused9-is : ltb 64 (length (q .transaction .controls .targets) + total
-      (ruleWeight targetsCoded (take 4096 (over (replicate 4096 0) (codesOf (q .text) (q .actions))))) (q .rules)) ≡ refused9 q
-  refused9-is = targets-exceed q _ (coded-over 4096 q few)
-
-  -- by the codes alone
-  pub refused8-first : ltb 256 (length (q .transaction .controls .ranges) + total
-      (ruleWeight rangesCoded (take 4096 (codesOf (q .text) (q .actions)))) (q .rules)) ≡ refused8 q
-  refused8-first = ranges-exceed q _ (coded-first 4096 q few)
-
-  pub refused9-first : ltb 64 (length (q .transaction .controls .targets) + total
-      (ruleWeight targetsCoded (take 4096 (codesOf (q .text) (q .actions)))) (q .rules)) ≡ refused9 q
-  refused9-first = targets-exceed q _ (coded-first 4096 q few)
+  -- refusals 8 and 9 by the codes of the actions are those of 01
+  pub limit-is : length (q .actions) ≤ 4096
+      → limitRefusal (q .rules) (take 4096 codes) ranges targets ≡ cond (refused8 q) 8 (cond (refused9 q) 9 0)
+  limit-is few =
+      let all : take 4096 codes ≡ codes = take-all 4096 codes (omega (arith, length-map (q .actions) (codeAt (q .text)))) in
+      rw (all, ranges-exceed, targets-exceed)
 
 -- the codes that `digest` leaves where all fit, and the front that they are
 module _ (text : List ℕ) (actions : List Action) (found : List ℕ) (room : length actions ≤ length found) where

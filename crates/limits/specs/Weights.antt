@@ -24,6 +24,16 @@ abbrev pub weightBy : Bool → ℕ → ℕ
 weightBy true = targetsCoded
 weightBy false = rangesCoded
 
+-- whether so many held and what all rules add exceed a limit
+abbrev pub addsBeyond : (ℕ → ℕ) → ℕ → ℕ → List Rule → List ℕ → Bool
+addsBeyond weight limit held rules codes = ltb limit (held + total (ruleWeight weight codes) rules)
+
+-- the first of refusals 8 and 9 that applies, to so many held ranges and targets, or 0
+abbrev pub limitRefusal : List Rule → List ℕ → ℕ → ℕ → ℕ
+limitRefusal rules codes ranges targets =
+    cond (addsBeyond rangesCoded 256 ranges rules codes) 8
+    (cond (addsBeyond targetsCoded 64 targets rules codes) 9 0)
+
 -- each sum is the weight of as many codes as stand before it; there is one more than there are codes
 pub record Summed (weight : ℕ → ℕ) (codes sums : List ℕ) : Type 0 where
   pub room : length codes < length sums

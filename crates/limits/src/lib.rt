@@ -1,11 +1,10 @@
 // Refusals 8 and 9: more ranges, or more targets, than a transaction may hold, counted rule by rule by the codes of crate digest.
 ghost use mathlib.Core.Path.{_≡_};
-ghost use Prim.Native.Nat.{_+_, _<_, _≤_, min};
-ghost use lib.Dec.{ltb};
+ghost use Prim.Native.Nat.{_<_, _≤_, min};
 ghost use lib.ListN.{length, take};
 ghost use Rattle.reading.specs.Lists.{total};
 ghost use Rattle.reading.specs.Records.{ruleList};
-ghost use Rattle.limits.specs.Weights.{rangesCoded, targetsCoded, ruleWeight, weightBy, Summed, following};
+ghost use Rattle.limits.specs.Weights.{weightBy, addsBeyond, limitRefusal, Summed, following};
 
 // How many targets, or how many ranges, the action of a code adds.
 fn weight(code: u16, targets: bool) -> u32
@@ -101,7 +100,7 @@ fn follow(rules: &[u64], actions: usize) -> bool
 // Whether so many held and those of all rules, counted rule by rule, exceed the limit. What a rule
 // adds is the difference of two sums: one behind its last action and one before its first.
 fn sums_exceed(rules: &[u64], codes: &[u16], targets: bool, held: usize, limit: usize) -> bool
-    ensures { λ r. ⌜ r ≡ ltb limit (held + total (ruleWeight (weightBy targets) (take 4096 (now (codes .entry)))) (ruleList (now (rules .entry)))) ⌝ }
+    ensures { λ r. ⌜ r ≡ addsBeyond (weightBy targets) limit held (ruleList (now (rules .entry))) (take 4096 (now (codes .entry))) ⌝ }
 {
     if limit < held {
         return true;
@@ -128,7 +127,7 @@ fn sums_exceed(rules: &[u64], codes: &[u16], targets: bool, held: usize, limit: 
 // The same. In most calls no action adds anything, or the rules' parts of the actions follow each
 // other and then add no more than all actions together: nothing is summed rule by rule.
 fn exceeds(rules: &[u64], codes: &[u16], targets: bool, held: usize, limit: usize) -> bool
-    ensures { λ r. ⌜ r ≡ ltb limit (held + total (ruleWeight (weightBy targets) (take 4096 (now (codes .entry)))) (ruleList (now (rules .entry)))) ⌝ }
+    ensures { λ r. ⌜ r ≡ addsBeyond (weightBy targets) limit held (ruleList (now (rules .entry))) (take 4096 (now (codes .entry))) ⌝ }
 {
     if limit < held {
         return true;
@@ -146,17 +145,16 @@ fn exceeds(rules: &[u64], codes: &[u16], targets: bool, held: usize, limit: usiz
     sums_exceed(rules, codes, targets, held, limit)
 }
 
-// Whether so many held ranges and those of all rules, counted rule by rule, exceed 256 (refusal 8).
-// Only the first 4,096 codes count.
-pub fn too_many_ranges(rules: &[u64], codes: &[u16], held: usize) -> bool
-    ensures { λ r. ⌜ r ≡ ltb 256 (held + total (ruleWeight rangesCoded (take 4096 (now (codes .entry)))) (ruleList (now (rules .entry)))) ⌝ }
+// The first of the two that applies, to so many held ranges and targets and those of all rules, or 0. Only the first 4,096 codes
+// count.
+pub fn limit_refusal(rules: &[u64], codes: &[u16], ranges: usize, targets: usize) -> u64
+    ensures { λ r. ⌜ r ≡ limitRefusal (ruleList (now (rules .entry))) (take 4096 (now (codes .entry))) ranges targets ⌝ }
 {
-    exceeds(rules, codes, false, held, 256)
-}
-
-// The same of targets and 64 (refusal 9).
-pub fn too_many_targets(rules: &[u64], codes: &[u16], held: usize) -> bool
-    ensures { λ r. ⌜ r ≡ ltb 64 (held + total (ruleWeight targetsCoded (take 4096 (now (codes .entry)))) (ruleList (now (rules .entry)))) ⌝ }
-{
-    exceeds(rules, codes, true, held, 64)
+    if exceeds(rules, codes, false, ranges, 256) {
+        return 8; // ranges
+    }
+    if exceeds(rules, codes, true, targets, 64) {
+        return 9; // targets
+    }
+    0
 }

@@ -66,7 +66,8 @@ unfolding refused4
 as-many-outcomes q e = eqb-true (length (q .outcomes)) (ruleCount q) (not-false (eqb (length (q .outcomes)) (ruleCount q)) e)
 
 module _ (q : Call) where
-  abbrev lastTwo : ℕ
+  -- what the first seven leave to the last two
+  abbrev pub lastTwo : ℕ
   lastTwo = cond (refused8 q) 8 (cond (refused9 q) 9 0)
 
   pub seven-first : (firstOfSeven q ≡ 0 → ⊥) → refusalOf q ≡ firstOfSeven q
@@ -75,7 +76,7 @@ module _ (q : Call) where
       one-same (refused1 q) 1 _ _ (one-same (refused2 q) 2 _ _ (one-same (refused3 q) 3 _ _ (one-same (refused4 q) 4 _ _
       (one-same (refused5 q) 5 _ _ (one-same (refused6 q) 6 _ _ (one-same (refused7 q) 7 lastTwo 0 (λ h. absurd (h refl))))))))
 
-  past-seven : firstOfSeven q ≡ 0 → refusalOf q ≡ lastTwo
+  pub past-seven : firstOfSeven q ≡ 0 → refusalOf q ≡ lastTwo
   unfolding firstOfSeven refusalOf
   past-seven =
       one-past (refused1 q) 0 _ _ _ (one-past (refused2 q) 1 _ _ _ (one-past (refused3 q) 2 _ _ _ (one-past (refused4 q) 3 _ _ _
@@ -88,15 +89,6 @@ module _ (q : Call) where
       let p1 = one-false (refused1 q) 0 _ e in
       let p2 = one-false (refused2 q) 1 _ (p1 .1) in
       few-actions q (p2 .0)
-
-  pub refused-8 : firstOfSeven q ≡ 0 → refused8 q ≡ true → refusalOf q ≡ 8
-  refused-8 e a = past-seven e ∙ rw a
-
-  pub refused-9 : firstOfSeven q ≡ 0 → refused8 q ≡ false → refused9 q ≡ true → refusalOf q ≡ 9
-  refused-9 e a b = past-seven e ∙ rw (a, b)
-
-  pub accepted : firstOfSeven q ≡ 0 → refused8 q ≡ false → refused9 q ≡ false → refusalOf q ≡ 0
-  accepted e a b = past-seven e ∙ rw (a, b)
 
 -- THE PROMISE
 

@@ -1,33 +1,32 @@
 -- What the tests of the phase call say of its refusals, and that nothing is to do, from what its callees leave.
-use Prim.Native.Nat.{ℕ, _+_, _/_}
+use Prim.Native.Nat.{ℕ, _/_, _≤_}
 use mathlib.Core.Path.{_≡_, refl, sym, ap, subst, _∙_}
 use mathlib.Core.Bool.{Bool, true, false, _||_}
 use mathlib.Core.List.{List}
-use native.Mathlib.Omega.{arith}
 use lib.ListN.{length, take, replicate}
-use lib.Dec.{ltb, eqb}
+use lib.Dec.{eqb}
 use Rattle.reading.specs.declared.RuleEngineMode.{RuleEngineMode}
-use Rattle.reading.specs.Lists.{over, total}
+use Rattle.reading.specs.Lists.{over}
 use Rattle.reading.specs.Numbers.{modeNumbered}
 use Rattle.reading.specs.Controls.{isOff, modeOr}
 use Rattle.reading.specs.Records.{ruleList, actionList}
 use Rattle.reading.specs.Call.{Call}
 use Rattle.reading.specs.Walk.{isStopped, nothingToDo}
-use Rattle.reading.specs.Refusals.{refusalOf, refused8, refused9}
+use Rattle.reading.specs.Refusals.{refusalOf}
 use Rattle.lists.proofs.RecordLaws.{length-rules}
 use Rattle.lists.proofs.RecordLaws.{length-actions}
 use Rattle.control.specs.Held.{controlsOf}
 use Rattle.control.proofs.HeldLaws.{ranges-length, targets-length}
 use Rattle.digest.specs.Codes.{codesOf}
-use Rattle.limits.specs.Weights.{rangesCoded, targetsCoded, ruleWeight}
-use Rattle.limits.proofs.Refused.{refused8-first, refused9-first, codes-fit, codes-front}
+use Rattle.limits.specs.Weights.{limitRefusal}
+use Rattle.limits.proofs.Refused.{limit-is, codes-fit, codes-front}
 use Rattle.refusals.specs.declared.Sizes.{Sizes}
 use Rattle.refusals.specs.Lent.{Lent, firstOfSeven}
 use Rattle.phase.specs.declared.Transaction.{Transaction}
 use Rattle.phase.specs.declared.Phase.{Phase}
 use Rattle.phase.specs.Phase.{callOf, Ran}
 use Rattle.phase.specs.Walked.{fresh, Ready, Walked}
-use Rattle.phase.proofs.Promise.{few-of-seven, seven-first, refused-8, refused-9, ran-refused, ran-idle}
+use Rattle.phase.proofs.Promise.{few-of-seven, seven-first, past-seven, ran-refused, ran-idle}
 use Rattle.phase.proofs.Promise.{busy, fresh-is, ready-of, ran-walked}
 use Rattle.phase.proofs.Promise.{length-data-list, length-journal-list}
 
@@ -94,40 +93,36 @@ module _ (g : Given) where
       ap (λ (n : ℕ). g .t .allowed || isStopped (g .t .intervention) || off || eqb n 0) (length-rules (g .rules))
       ∙ sym (e ∙ rw m)
 
-  -- what refusals 8 and 9 test, of the codes that are lent
-  abbrev exceeds : (ℕ → ℕ) → ℕ → ℕ → List ℕ → Bool
-  exceeds weight limit held part = ltb limit (held + total (ruleWeight weight (take 4096 part)) (ruleList (g .rules)))
-
   -- the codes, and those of a lent part
   module _ (z : firstOfSeven q ≡ 0) where
+    few : length (actionList (g .actions)) ≤ 4096
+    few = few-of-seven q z
+
     abbrev codes : List ℕ
     codes = codesOf (g .text) (actionList (g .actions))
 
     pub digested : (d : List ℕ) → d ≡ over (replicate 4096 0) (take 4096 codes) → d ≡ over (replicate 4096 0) codes
-    digested d e = e ∙ codes-fit (g .text) (actionList (g .actions)) (replicate 4096 0) (few-of-seven q z)
+    digested d e = e ∙ codes-fit (g .text) (actionList (g .actions)) (replicate 4096 0) few
 
     module _ (d : List ℕ) (e : d ≡ over (replicate 4096 0) codes) where
       front-is : take (length (g .actions) / 6) d ≡ codes
       front-is =
           ap (take (length (g .actions) / 6)) e
           ∙ (ap (λ (n : ℕ). take n (over (replicate 4096 0) codes)) (sym (length-actions (g .actions)))
-          ∙ codes-front (g .text) (actionList (g .actions)) (replicate 4096 0) (few-of-seven q z))
+          ∙ codes-front (g .text) (actionList (g .actions)) (replicate 4096 0) few)
 
-      pub eighth : (part : List ℕ) (b : Bool) → part ≡ take (length (g .actions) / 6) d
-          → b ≡ exceeds rangesCoded 256 (g .t .controls .ranges) part → refused8 q ≡ b
-      eighth part b p h =
-          sym (refused8-first q (few-of-seven q z))
-          ∙ (ap (λ (n : ℕ). exceeds rangesCoded 256 n codes) (ranges-length (g .t .controls))
-          ∙ (ap (exceeds rangesCoded 256 (g .t .controls .ranges)) (sym (p ∙ front-is)) ∙ sym h))
+      -- refusals 8 and 9, tested on the part of the codes that is lent, are the last two
+      pub limited : (part : List ℕ) (k : ℕ) → part ≡ take (length (g .actions) / 6) d
+          → k ≡ limitRefusal (ruleList (g .rules)) (take 4096 part) (g .t .controls .ranges) (g .t .controls .targets)
+          → k ≡ refusalOf q
+      limited part k p h =
+          h
+          ∙ (ap (λ (l : List ℕ). limitRefusal (ruleList (g .rules)) (take 4096 l) (g .t .controls .ranges) (g .t .controls .targets)) (p ∙ front-is)
+          ∙ (ap (λ (n : ℕ). limitRefusal (ruleList (g .rules)) (take 4096 codes) n (g .t .controls .targets)) (sym (ranges-length (g .t .controls)))
+          ∙ (ap (limitRefusal (ruleList (g .rules)) (take 4096 codes) (length (q .transaction .controls .ranges))) (sym (targets-length (g .t .controls)))
+          ∙ (limit-is q few ∙ sym (past-seven q z)))))
 
-      pub ninth : (part : List ℕ) (b : Bool) → part ≡ take (length (g .actions) / 6) d
-          → b ≡ exceeds targetsCoded 64 (g .t .controls .targets) part → refused9 q ≡ b
-      ninth part b p h =
-          sym (refused9-first q (few-of-seven q z))
-          ∙ (ap (λ (n : ℕ). exceeds targetsCoded 64 n codes) (targets-length (g .t .controls))
-          ∙ (ap (exceeds targetsCoded 64 (g .t .controls .targets)) (sym (p ∙ front-is)) ∙ sym h))
-
-  -- the four answers that leave everything as it was lent
+  -- the answers that leave everything as it was lent
   abbrev RanAs : Phase → Type 0
   RanAs r = Ran q (g .t) (g .entries) (g .journal) r (g .ids) (g .entries) (g .journal)
 
@@ -135,20 +130,14 @@ module _ (g : Given) where
   lent k = record { answer = k; error = 0; visits = 0; transaction = g .t }
 
   module _ (k : ℕ) (r : Phase) (e : r ≡ lent k) where
-    refused-by : k ≡ refusalOf q → (k ≡ 0 → ⊥) → RanAs r
-    refused-by a n =
+    pub ran-by : k ≡ refusalOf q → (k ≡ 0 → ⊥) → RanAs r
+    ran-by a n =
         subst (λ (x : Phase). RanAs x) (sym e)
         (ran-refused (g .phase) (g .mode) (g .status) (g .rules) (g .actions) (g .markers) (g .text) (g .outcomes)
         (g .t) (g .ids) (g .entries) (g .journal) k a n)
 
     pub ran-first : k ≡ firstOfSeven q → (k ≡ 0 → ⊥) → RanAs r
-    ran-first a n = refused-by (a ∙ sym (seven-first q (λ z. n (a ∙ z)))) n
-
-    pub ran-eighth : k ≡ 8 → firstOfSeven q ≡ 0 → refused8 q ≡ true → RanAs r
-    ran-eighth i z b = refused-by (i ∙ sym (refused-8 q z b)) (λ n. omega arith)
-
-    pub ran-ninth : k ≡ 9 → firstOfSeven q ≡ 0 → refused8 q ≡ false → refused9 q ≡ true → RanAs r
-    ran-ninth i z a b = refused-by (i ∙ sym (refused-9 q z a b)) (λ n. omega arith)
+    ran-first a n = ran-by (a ∙ sym (seven-first q (λ z. n (a ∙ z)))) n
 
   pub ran-nothing : (r : Phase) → r ≡ lent 0 → refusalOf q ≡ 0 → nothingToDo q ≡ true → RanAs r
   ran-nothing r e a h =

@@ -241,11 +241,9 @@ pub fn run_phase(
     let mut codes = [0u16; 4096];
     digest::digest(actions, text, &mut codes[0..]);
     let used = actions.len() / 6;
-    if limits::too_many_ranges(rules, &codes[0..used], ranges) {
-        return as_lent(8, t); // ranges
-    }
-    if limits::too_many_targets(rules, &codes[0..used], targets) {
-        return as_lent(9, t); // targets
+    let limit = limits::limit_refusal(rules, &codes[0..used], ranges, targets);
+    if limit != 0 {
+        return as_lent(limit, t);
     }
     let settings = t.controls.settings;
     let held = t.intervention;

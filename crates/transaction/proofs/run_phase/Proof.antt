@@ -10,13 +10,13 @@ use lib.Seq.{take-all}
 use Rattle.reading.specs.Lists.{over}
 use Rattle.reading.specs.Records.{actionList}
 use Rattle.reading.specs.Walk.{nothingToDo}
-use Rattle.reading.specs.Refusals.{refusalOf, refused8, refused9}
+use Rattle.reading.specs.Refusals.{refusalOf}
 use Rattle.lists.proofs.RecordLaws.{length-actions}
 use Rattle.digest.specs.Codes.{codesOf}
 use Rattle.refusals.specs.Lent.{firstOfSeven}
-use Rattle.phase.proofs.Promise.{few-of-seven, accepted}
-use Rattle.phase.proofs.Tested.{Given, callAt, lent-is, idle-is, digested, eighth, ninth}
-use Rattle.phase.proofs.Tested.{ran-first, ran-eighth, ran-ninth, ran-nothing, ready-at, ran-at}
+use Rattle.phase.proofs.Promise.{few-of-seven}
+use Rattle.phase.proofs.Tested.{Given, callAt, lent-is, idle-is, digested, limited}
+use Rattle.phase.proofs.Tested.{ran-first, ran-by, ran-nothing, ready-at, ran-at}
 use borrow.Author.Needs.{needs}
 use Rattle.transaction.proofs.run_phase.Statement.{statement}
 use Rattle.transaction.proofs.run_phase.Tie as tie
@@ -48,16 +48,10 @@ as-lent-requires c κs = search needs
 abbrev past-seven : tie.After-digest → tie.Else1
 past-seven c = c .before .before
 
-abbrev coded : tie.After-too-many-ranges → tie.After-digest
+abbrev coded : tie.After-limit-refusal → tie.After-digest
 coded c = c .before .before .before .before
 
-abbrev past-eight : tie.After-too-many-targets → tie.Else2
-past-eight c = c .before .before .before
-
-abbrev coded-then : tie.After-too-many-targets → tie.After-digest
-coded-then c = coded (past-eight c .before)
-
-abbrev past-nine : tie.After-is-idle → tie.Else3
+abbrev past-nine : tie.After-is-idle → tie.Else2
 past-nine c = c .before .before .before
 
 abbrev given-first : tie.After-first-refusal → Given
@@ -67,7 +61,7 @@ abbrev given-coded : tie.After-digest → Given
 given-coded c = given-first (past-seven c .before)
 
 abbrev given-idle : tie.After-is-idle → Given
-given-idle c = given-coded (coded-then (past-nine c .before))
+given-idle c = given-coded (coded (past-nine c .before))
 
 -- the codes as `digest` left them
 abbrev left : tie.After-digest → List ℕ
@@ -101,25 +95,14 @@ few-fit c =
     omega (arith, few-of-seven (callAt (given-coded c)) (zero (past-seven c)), length-actions (given-coded c .actions)) in
     fits (left c) (length (given-coded c .actions) / 6) few (room c)
 
-eight : (c : tie.After-too-many-ranges) → refused8 (callAt (given-coded (coded c))) ≡ c .too-many-ranges .result
-eight c =
+last : (c : tie.After-limit-refusal) → c .limit-refusal .result ≡ refusalOf (callAt (given-coded (coded c)))
+last c =
     let p = coded c in
-    eighth (given-coded p) (zero (past-seven p)) (left p) (codes p) _ (c .too-many-ranges .result)
-    (front (left p) (length (given-coded p .actions) / 6)) (c .too-many-ranges .ensures)
+    limited (given-coded p) (zero (past-seven p)) (left p) (codes p) _ (c .limit-refusal .result)
+    (front (left p) (length (given-coded p .actions) / 6)) (c .limit-refusal .ensures)
 
-not-eight : (c : tie.Else2) → refused8 (callAt (given-coded (coded (c .before)))) ≡ false
-not-eight c = eight (c .before) ∙ c .if2 .left
-
-nine : (c : tie.After-too-many-targets) → refused9 (callAt (given-coded (coded-then c))) ≡ c .too-many-targets .result
-nine c =
-    let p = coded-then c in
-    ninth (given-coded p) (zero (past-seven p)) (left p) (codes p) _ (c .too-many-targets .result)
-    (front (left p) (length (given-coded p .actions) / 6)) (c .too-many-targets .ensures)
-
-passed : (c : tie.Else3) → refusalOf (callAt (given-coded (coded-then (c .before)))) ≡ 0
-passed c =
-    let p = coded-then (c .before) in
-    accepted (callAt (given-coded p)) (zero (past-seven p)) (not-eight (past-eight (c .before))) (nine (c .before) ∙ c .if3 .left)
+passed : (c : tie.Else2) → refusalOf (callAt (given-coded (coded (c .before)))) ≡ 0
+passed c = sym (last (c .before)) ∙ c .if2 .left
 
 idle : (c : tie.After-is-idle) → nothingToDo (callAt (given-idle c)) ≡ c .is-idle .result
 idle c =
@@ -144,17 +127,17 @@ part-codes-end c = search needs
 digest-requires : tie.Need-digest-requires
 digest-requires c κs = search needs
 
-sub-too-many-ranges : tie.Need-sub-too-many-ranges
-sub-too-many-ranges c = search needs
+sub-limit-refusal : tie.Need-sub-limit-refusal
+sub-limit-refusal c = search needs
 
-part-too-many-ranges-start : tie.Need-part-too-many-ranges-start
-part-too-many-ranges-start c = search needs
+part-limit-refusal-start : tie.Need-part-limit-refusal-start
+part-limit-refusal-start c = search needs
 
-part-too-many-ranges-end : tie.Need-part-too-many-ranges-end
-part-too-many-ranges-end c = few-fit (c .before .before)
+part-limit-refusal-end : tie.Need-part-limit-refusal-end
+part-limit-refusal-end c = few-fit (c .before .before)
 
-too-many-ranges-requires : tie.Need-too-many-ranges-requires
-too-many-ranges-requires c κs = search needs
+limit-refusal-requires : tie.Need-limit-refusal-requires
+limit-refusal-requires c κs = search needs
 
 as-lent-requires-2 : tie.Need-as-lent-requires-2
 as-lent-requires-2 c κs = search needs
@@ -162,31 +145,9 @@ as-lent-requires-2 c κs = search needs
 returns-2 : tie.Need-returns-2
 returns-2 c =
     let b = c .before in
-    let p = coded (b .before) in
-    ran-eighth (given-coded p) 8 (c .as-lent2 .result) (c .as-lent2 .ensures) refl (zero (past-seven p))
-    (eight (b .before) ∙ b .if2 .taken)
-
-sub-too-many-targets : tie.Need-sub-too-many-targets
-sub-too-many-targets c = search needs
-
-part-too-many-targets-start : tie.Need-part-too-many-targets-start
-part-too-many-targets-start c = search needs
-
-part-too-many-targets-end : tie.Need-part-too-many-targets-end
-part-too-many-targets-end c = few-fit (c .before .before .before .before .before .before)
-
-too-many-targets-requires : tie.Need-too-many-targets-requires
-too-many-targets-requires c κs = search needs
-
-as-lent-requires-3 : tie.Need-as-lent-requires-3
-as-lent-requires-3 c κs = search needs
-
-returns-3 : tie.Need-returns-3
-returns-3 c =
-    let b = c .before in
-    let p = coded-then (b .before) in
-    ran-ninth (given-coded p) 9 (c .as-lent3 .result) (c .as-lent3 .ensures) refl (zero (past-seven p))
-    (not-eight (past-eight (b .before))) (nine (b .before) ∙ b .if3 .taken)
+    let p = b .before in
+    ran-by (given-coded (coded p)) (p .limit-refusal .result) (c .as-lent2 .result) (c .as-lent2 .ensures)
+    (last p) (b .if2 .taken)
 
 mode-numbered-requires : tie.Need-mode-numbered-requires
 mode-numbered-requires c κs = search needs
@@ -194,14 +155,14 @@ mode-numbered-requires c κs = search needs
 is-idle-requires : tie.Need-is-idle-requires
 is-idle-requires c κs = search needs
 
-as-lent-requires-4 : tie.Need-as-lent-requires-4
-as-lent-requires-4 c κs = search needs
+as-lent-requires-3 : tie.Need-as-lent-requires-3
+as-lent-requires-3 c κs = search needs
 
-returns-4 : tie.Need-returns-4
-returns-4 c =
+returns-3 : tie.Need-returns-3
+returns-3 c =
     let b = c .before in
     let p = b .before in
-    ran-nothing (given-idle p) (c .as-lent4 .result) (c .as-lent4 .ensures) (passed (past-nine p)) (idle p ∙ b .if4 .taken)
+    ran-nothing (given-idle p) (c .as-lent3 .result) (c .as-lent3 .ensures) (passed (past-nine p)) (idle p ∙ b .if3 .taken)
 
 sub-walk-rules : tie.Need-sub-walk-rules
 sub-walk-rules c = search needs
@@ -211,15 +172,15 @@ part-walk-rules-start c = search needs
 
 part-walk-rules-end : tie.Need-part-walk-rules-end
 part-walk-rules-end c =
-    let d = coded-then (past-nine (c .before .before .before) .before) in
+    let d = coded (past-nine (c .before .before .before) .before) in
     fits (left d) 4096 (omega arith) (room d)
 
 walk-rules-requires : tie.Need-walk-rules-requires
 walk-rules-requires c κs =
     let b = c .before .before .before .before .before .before in
     let p = b .before in
-    let d = coded-then (past-nine p .before) in
-    ready-at (given-idle p) (passed (past-nine p)) (idle p ∙ b .if4 .left) _
+    let d = coded (past-nine p .before) in
+    ready-at (given-idle p) (passed (past-nine p)) (idle p ∙ b .if3 .left) _
     (front (left d) 4096 ∙ (take-all 4096 (left d) (omega (arith, room d)) ∙ codes d))
 
 same-length : tie.Need-same-length
@@ -231,13 +192,13 @@ same-length-2 c = search needs
 same-length-3 : tie.Need-same-length-3
 same-length-3 c = search needs
 
-returns-5 : tie.Need-returns-5
-returns-5 c =
+returns-4 : tie.Need-returns-4
+returns-4 c =
     let w = c .before .before .before .before .before .before .walk-rules in
     let b = c .before .before .before .before .before .before .before .before .before .before .before .before .before in
     let p = b .before in
     let lists = w .last .1 .1 .1 .1 .1 .1 .1 .1 .1 .1 .1 .1 in
-    ran-at (given-idle p) (passed (past-nine p)) (idle p ∙ b .if4 .left)
+    ran-at (given-idle p) (passed (past-nine p)) (idle p ∙ b .if3 .left)
     (w .result) (lists .0) (lists .1 .0) (lists .1 .1 .0) (w .ensures)
 
 pub run-phase-spec : {M : Type 1} → statement M
@@ -251,22 +212,16 @@ run-phase-spec =
     part-codes-start
     part-codes-end
     digest-requires
-    sub-too-many-ranges
-    part-too-many-ranges-start
-    part-too-many-ranges-end
-    too-many-ranges-requires
+    sub-limit-refusal
+    part-limit-refusal-start
+    part-limit-refusal-end
+    limit-refusal-requires
     as-lent-requires-2
     returns-2
-    sub-too-many-targets
-    part-too-many-targets-start
-    part-too-many-targets-end
-    too-many-targets-requires
-    as-lent-requires-3
-    returns-3
     mode-numbered-requires
     is-idle-requires
-    as-lent-requires-4
-    returns-4
+    as-lent-requires-3
+    returns-3
     sub-walk-rules
     part-walk-rules-start
     part-walk-rules-end
@@ -274,4 +229,4 @@ run-phase-spec =
     same-length
     same-length-2
     same-length-3
-    returns-5)
+    returns-4)
