@@ -9,7 +9,6 @@ use Rattle.reading.specs.Controls as reading
 use Rattle.control.specs.Held.{controlsOf}
 use Rattle.numbered.specs.declared.HostControls.{HostControls}
 use Rattle.numbers.specs.declared.HostNumber.{HostNumber}
-use Rattle.numbers.specs.declared.HostPlace.{HostPlace}
 use Rattle.numbers.specs.Parts.{numberKnown, numberOf, flagNumber, hostPlace}
 use Rattle.numbered.specs.Controls.{knownControls, controlsFromHost}
 use Rattle.asked.specs.declared.HostAsked.{HostAsked}

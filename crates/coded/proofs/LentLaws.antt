@@ -35,13 +35,3 @@ turned-as t e =
         positions = t .became .positions;
       };
     }
-
--- parts that are the same make up the same struct, and are as long
-module _ {starts ends phases positions starts′ ends′ phases′ positions′ : List ℕ} where
-  pub struct-same : {h k : Held} → h ≡ k → starts ≡ starts′ → ends ≡ ends′ → phases ≡ phases′ → positions ≡ positions′
-      → structOf h starts ends phases positions ≡ structOf k starts′ ends′ phases′ positions′
-  struct-same a b c d e = rw (a, b, c, d, e)
-
-  pub whole-same : starts ≡ starts′ → ends ≡ ends′ → phases ≡ phases′ → positions ≡ positions′
-      → Whole starts′ ends′ phases′ positions′ → Whole starts ends phases positions
-  whole-same b c d e w = rw (b, c, d, e) w

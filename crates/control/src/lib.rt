@@ -8,7 +8,6 @@ use reading::Place;
 use reading::ProcessorSetting;
 use reading::RuleEngineMode;
 use reading::RuleIdRange;
-ghost use mathlib.Core.Path.{_≡_};
 ghost use Rattle.reading.specs.Controls.{withMode, withAccess, withProcessor, withRange, withTarget, addRangeAnswer, addTargetAnswer};
 ghost use Rattle.control.specs.Held.{controlsOf, New, Became, Added};
 

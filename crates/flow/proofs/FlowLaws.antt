@@ -1,16 +1,16 @@
 -- Where the walk goes on behind a closed unit, case by case. Assumes nothing.
 use Prim.Native.Nat.{ℕ, _+_, _≤_, _<_, min}
-use mathlib.Core.Path.{_≡_, refl, sym, ap, _∙_}
-use mathlib.Core.Bool.{Bool, true, false, cond, _||_, _&&_}
+use mathlib.Core.Path.{_≡_, refl, sym, _∙_}
+use mathlib.Core.Bool.{Bool, true, false, cond}
 use mathlib.Core.List.{List}
 use native.Mathlib.Omega.{arith}
 use borrow.Author.Tests.{lt-ltb, le-ltb}
-use lib.Dec.{ltb, eqb}
-use lib.ListN.{length, getD}
+use lib.Dec.{ltb}
+use lib.ListN.{getD}
 use Rattle.reading.specs.declared.OptionU64.{OptionU64}
 use Rattle.reading.specs.declared.FlowOutcome.{FlowOutcome}
 use Rattle.reading.specs.Reading.{rust, jumps}
-use Rattle.reading.specs.Records.{ruleList, actionList, markerList}
+use Rattle.reading.specs.Records.{actionList, markerList}
 use Rattle.reading.specs.Text.{partOf}
 use Rattle.reading.specs.Call.{Call, ruleCount}
 use Rattle.reading.specs.Markers.{markerPosition}

@@ -25,7 +25,7 @@ use Rattle.markers.specs.Unpacked.{unpackedOf}
 use Rattle.markers.proofs.Padded.{words-length}
 use Rattle.refusals.specs.Lent.{Lent, firstOfSeven}
 use Rattle.phase.specs.declared.Transaction.{Transaction}
-use Rattle.phase.specs.Phase.{transactionOf, callOf, outcomeFound, Ran}
+use Rattle.phase.specs.Phase.{transactionOf, callOf, Ran}
 use Rattle.phase.proofs.Promise.{length-data-list, length-journal-list}
 use Rattle.records.specs.declared.HostTransaction.{HostTransaction}
 use Rattle.numbered.specs.Controls.{controlsFromHost, controlsToHost}
@@ -36,7 +36,7 @@ use Rattle.words.specs.declared.Answer.{Answer}
 use Rattle.words.specs.Lent.{callLent, phaseOf, lentWords, lentPart}
 use Rattle.words.proofs.LentLaws.{few-words, ran-lent}
 use Rattle.handed.specs.declared.HostAnswer.{HostAnswer}
-use Rattle.handed.specs.Handed.{phaseFound, unknownAnswer, TurnedAway, HostRan, keptOf, sizesOf, interventionAfter, writtenOf}
+use Rattle.handed.specs.Handed.{phaseFound, unknownAnswer, HostRan, keptOf, sizesOf, interventionAfter, writtenOf}
 
 -- a test that is true is not false
 abbrev Holds : Bool → Type 0

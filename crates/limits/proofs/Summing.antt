@@ -8,7 +8,7 @@ use lib.ListN.{length, take, drop, getD, set, length-set}
 use lib.Seq.{getD-set-same, getD-set-other, take-length}
 use Rattle.reading.specs.declared.Rule.{Rule}
 use Rattle.reading.specs.Lists.{total}
-use Rattle.reading.specs.Records.{ruleFrom, ruleList}
+use Rattle.reading.specs.Records.{ruleList}
 use Rattle.reading.specs.Call.{noRule}
 use Rattle.lists.proofs.RecordLaws.{length-rules, rule-is}
 use Rattle.limits.specs.Weights.{ruleWeight}

@@ -72,19 +72,6 @@ module _ (words : List ℕ) where
   unfolding markerList
   marker-is i d h = record-is 3 markerFrom words i d h
 
-  pub marker-behind : (i : ℕ) (d : Marker) → length words / 3 ≤ i → getD (markerList words) i d ≡ d
-  unfolding markerList
-  marker-behind i d h = record-behind 3 markerFrom words i d h
-
-  pub drop-markers : (i : ℕ) → i < length words / 3
-      → drop i (markerList words) ≡ markerFrom words i ∷ drop (suc i) (markerList words)
-  unfolding markerList
-  drop-markers i h = drop-records 3 markerFrom words i h
-
-  pub markers-end : (i : ℕ) → length words / 3 ≤ i → drop i (markerList words) ≡ []
-  unfolding markerList
-  markers-end i h = records-end 3 markerFrom words i h
-
   pub length-actions : length (actionList words) ≡ length words / 6
   unfolding actionList
   length-actions = length-records 6 actionAt words

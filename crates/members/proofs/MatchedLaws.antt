@@ -1,5 +1,5 @@
 -- The matched entries of a part of the journal, by the entries' places. Assumes nothing.
-use Prim.Native.Nat.{ℕ, zero, suc, _+_, _*_, _/_, _≤_, _<_}
+use Prim.Native.Nat.{ℕ, _+_, _*_, _/_, _≤_, _<_}
 use mathlib.Core.Path.{_≡_, refl, sym, ap, _∙_}
 use mathlib.Core.List.{List, [], _∷_, _++_, append-assoc, append-nil}
 use native.Mathlib.Omega.{arith}
@@ -11,7 +11,7 @@ use lib.Seq.{take-suc, take-all}
 use Rattle.reading.specs.Lists.{keep}
 use Rattle.reading.specs.declared.JournalEntry.{JournalEntry}
 use Rattle.reading.specs.Records.{journalFrom, journalList, matchedIn}
-use Rattle.reading.specs.Units.{starterOf, closerOf}
+use Rattle.reading.specs.Units.{closerOf}
 use Rattle.lists.proofs.RecordLaws.{record-is, length-entries, drop-entries, entries-end}
 
 pub noEntry : JournalEntry

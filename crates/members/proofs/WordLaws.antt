@@ -69,11 +69,6 @@ journal-over words es h = journal-append es (drop (length (journalWords es)) wor
     ∙ ap (λ (l : List JournalEntry). es ++ l)
     (ap (λ (n : ℕ). journalList (drop n words)) (length-journal-words es) ∙ journal-drop (length es) words h)
 
-pub journal-front : (words : List ℕ) (es : List JournalEntry) → 2 * length es ≤ length words
-    → take (length es) (journalList (over words (journalWords es))) ≡ es
-journal-front words es h = ap (take (length es)) (journal-over words es h)
-    ∙ take-at es (drop (length es) (journalList words)) (length es) refl
-
 -- the part of the journal from the entry f to the last one, which is lent as `&journal[2 * f..2 * k]`
 pub journal-part : (words : List ℕ) (es : List JournalEntry) (rest : List ℕ) (f k : ℕ)
     → words ≡ journalWords es ++ rest → k ≡ length es → f ≤ k

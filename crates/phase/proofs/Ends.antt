@@ -1,19 +1,18 @@
 -- How a visit leaves the phase, in the code and in the definition. Assumes nothing.
 use Prim.Native.Nat.{ℕ, _<_}
-use mathlib.Core.Path.{_≡_, refl, sym, ap, _∙_}
-use mathlib.Core.Bool.{Bool, true, false, not, cond, _&&_, _||_}
+use mathlib.Core.Path.{_≡_, refl, ap, _∙_}
+use mathlib.Core.Bool.{Bool, true, false, not, cond, _&&_}
 use mathlib.Core.List.{List, [], _∷_, _++_}
 use Rattle.reading.specs.declared.Verdict.{Verdict}
 use Rattle.reading.specs.declared.DisruptiveOutcome.{DisruptiveOutcome}
 use Rattle.reading.specs.declared.Intervention.{Intervention}
 use Rattle.reading.specs.declared.OptionIntervention.{OptionIntervention}
-use Rattle.reading.specs.declared.RuleEngineMode.{RuleEngineMode}
 use Rattle.reading.specs.Reading.{rust}
 use Rattle.reading.specs.Controls.{Controls, isOn}
 use Rattle.reading.specs.Call.{Call, modeUnder, isLink, ruleCount}
 use Rattle.reading.specs.Units.{unitDisruptive, unitIntervention, isAllow, isStopping}
 use Rattle.reading.specs.Walk.{State, Visit, goesOn, allows, errs, stops, isLast, isError, givesAllow, interventionOr, visitBy}
-use Rattle.reading.specs.Walk.{visitAt, verdictAt}
+use Rattle.reading.specs.Walk.{verdictAt}
 use Rattle.reading.specs.Walk as reading
 use Rattle.visit.specs.declared.Visited.{Visited}
 use Rattle.visit.specs.declared.State as code
@@ -22,7 +21,6 @@ use Rattle.stopping.specs.declared.Ending.{Ending}
 use Rattle.stopping.specs.Ends.{endBy}
 use Rattle.intervention.specs.Stopped.{stoppedBy}
 use Rattle.phase.specs.Walked.{isGoing, isErrs, isAllows}
-use Rattle.phase.proofs.Turns.{true-false}
 use Rattle.phase.proofs.Found.{byCode, code-is, visit-is, visitOf, unitOf, stateOf}
 
 -- the code's ending of a definition's

@@ -1,30 +1,25 @@
 -- The visit that the code makes is the definition's. Assumes nothing.
-use Prim.Native.Nat.{ℕ, zero, suc, _+_, _-_, _≤_, _<_, min}
-use mathlib.Core.Path.{_≡_, refl, sym, ap, subst, _∙_}
-use mathlib.Core.Bool.{Bool, true, false, not, cond, _&&_}
-use mathlib.Core.List.{List, [], _∷_, _++_, append-assoc, append-nil}
+use Prim.Native.Nat.{ℕ, _+_, _-_, _≤_, _<_, min}
+use mathlib.Core.Path.{_≡_, refl, sym, ap, _∙_}
+use mathlib.Core.Bool.{Bool, true, false, cond}
+use mathlib.Core.List.{List, [], _∷_, _++_, append-nil}
 use native.Mathlib.Omega.{arith}
 use native.Mathlib.Numerals.{add-one}
 use borrow.Author.Tests.{lt-ltb}
 use lib.Dec.{eqb, ltb}
-use lib.ListN.{length, drop, getD, drop-of-length-le, length-append}
-use lib.Seq.{drop-append-le}
+use lib.ListN.{length, drop, getD}
 use Rattle.reading.specs.declared.Verdict.{Verdict}
-use Rattle.reading.specs.declared.JournalEntry.{JournalEntry}
 use Rattle.reading.specs.declared.Rule.{Rule}
 use Rattle.reading.specs.declared.RuleEngineMode.{RuleEngineMode}
-use Rattle.reading.specs.declared.DisruptiveOutcome.{DisruptiveOutcome}
-use Rattle.reading.specs.Lists.{keep, gather}
+use Rattle.reading.specs.Lists.{keep}
 use Rattle.reading.specs.Numbers.{verdictNumber, modeNumbered}
-use Rattle.reading.specs.Records.{matchedIn}
 use Rattle.reading.specs.Reading.{rust}
 use Rattle.reading.specs.Controls.{Controls, isRemoved, rangeList, modeOr}
 use Rattle.reading.specs.Call.{Call, ruleCount, ruleAt, idAt, outcomeAt, recordId, isLink, noRule, modeUnder}
-use Rattle.reading.specs.Units.{unitControls, unitFlow, unitDisruptive}
+use Rattle.reading.specs.Units.{unitControls, unitFlow}
 use Rattle.reading.specs.Walk.{State, Visit, visitBy, visitAt, verdictAt, verdictBy, afterChain, afterFlow, entryOf, chainRest}
 use Rattle.control.specs.declared.Controls as held
 use Rattle.control.specs.Held.{controlsOf}
-use Rattle.members.proofs.MatchedLaws.{matched-append}
 use Rattle.visit.specs.declared.Visited.{Visited}
 use Rattle.visit.specs.declared.State as code
 use Rattle.visit.specs.Found.{entryBy, passed, foundBy, foundAt}
@@ -95,14 +90,6 @@ module _ (q : Call) (reading : q .reading ≡ rust) (st : State) (chained : Bool
 
   abbrev pub byCode : Verdict → Bool → Visited
   byCode found link = foundBy (st .next + 1) (afterChain q (st .next)) chained first found link
-
-  verdict-by : (v : Verdict) (l : Bool) → visitBy q st v l .verdict ≡ v
-  verdict-by Verdict.Missed l = refl
-  verdict-by Verdict.Matched true = refl
-  verdict-by Verdict.Matched false = refl
-  verdict-by Verdict.Removed true = refl
-  verdict-by Verdict.Removed false = refl
-  verdict-by Verdict.Error l = refl
 
   closed-by : (v : Verdict) (l : Bool) → visitBy q st v l .closed ≡ keep (byCode v l .closes) (unit ∷ [])
   closed-by Verdict.Missed l = refl

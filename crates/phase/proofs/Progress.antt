@@ -1,58 +1,33 @@
 -- What the loop of `walk_rules` has written after some visits, how far the walk then is, and what one turn adds. Assumes nothing.
-use Prim.Native.Nat.{ℕ, zero, suc, _+_, _-_, _*_, _/_, _≤_, _<_, min}
-use mathlib.Core.Path.{_≡_, refl, sym, ap, subst, _∙_}
-use mathlib.Core.Bool.{Bool, true, false, not, cond, _&&_, _||_}
-use mathlib.Core.List.{List, [], _∷_, _++_, append-assoc, append-nil}
+use Prim.Native.Nat.{ℕ, _+_, _-_, _*_, _≤_}
+use mathlib.Core.Path.{_≡_, refl, sym, ap, _∙_}
+use mathlib.Core.Bool.{false, cond}
+use mathlib.Core.List.{List, [], _++_, append-assoc, append-nil}
 use native.Mathlib.Omega.{arith}
 use native.Mathlib.Nat.{sub-zero}
-use lib.Dec.{eqb}
-use lib.ListN.{length, take, drop, getD, length-append, length-drop, drop-of-length-le, take-append-drop, replicate}
-use lib.Seq.{length-take-le, drop-append-le, take-all, drop-drop}
-use Rattle.reading.specs.declared.DisruptiveOutcome.{DisruptiveOutcome}
-use Rattle.reading.specs.declared.DataEntry.{DataEntry}
-use Rattle.reading.specs.declared.JournalEntry.{JournalEntry}
-use Rattle.reading.specs.declared.Intervention.{Intervention}
+use lib.ListN.{length, take, drop, length-append, take-append-drop}
+use lib.Seq.{length-take-le, drop-drop}
 use Rattle.reading.specs.declared.OptionIntervention.{OptionIntervention}
-use Rattle.reading.specs.declared.Verdict.{Verdict}
-use Rattle.reading.specs.Lists.{keep, over, gather}
-use Rattle.reading.specs.Numbers.{verdictNumber}
-use Rattle.reading.specs.Reading.{rust}
-use Rattle.reading.specs.Records.{dataWords, journalWords, journalList, matchedIn}
+use Rattle.reading.specs.Records.{dataWords, journalWords, matchedIn}
 use Rattle.reading.specs.Controls.{isOff}
 use Rattle.reading.specs.Controls as reading
 use Rattle.reading.specs.Call.{Call, ruleCount, modeUnder}
-use Rattle.reading.specs.Units.{unitIds, unitData, unitControls, unitFlow, unitDisruptive, unitIntervention}
-use Rattle.reading.specs.Walk.{Visit, isLast, entryOf, journalOf, closedIn, idsOf, dataOf, controlsAfter, allowedBy}
-use Rattle.reading.specs.Walk.{interventionOr, interventionBy, answerBy, errorIndexBy, walk, start, verdictAt, visitAt, afterFlow}
-use Rattle.reading.specs.Walk.{givesAllow, isError}
-use Rattle.reading.specs.Outcome.{atFreeEnd}
+use Rattle.reading.specs.Walk.{Visit, journalOf, idsOf, dataOf, controlsAfter, allowedBy}
+use Rattle.reading.specs.Walk.{interventionBy, answerBy, errorIndexBy, walk}
 use Rattle.control.specs.declared.Controls.{Controls}
 use Rattle.control.specs.Held.{controlsOf, Became}
-use Rattle.control_laws.proofs.Chained.{became-same, became-then, became-ranges}
-use Rattle.coded.specs.Coded.{unitCoded}
-use Rattle.coded.proofs.StepLaws.{Grown, grown-then}
-use Rattle.coded.proofs.Fits.{sourceOf, unit-fits, unit-idle}
-use Rattle.digest.specs.Codes.{codesOf}
-use Rattle.members.proofs.MatchedLaws.{matched-append}
-use Rattle.members.proofs.WordLaws.{length-journal-words, journal-words-append, length-data-words, data-words-append}
-use Rattle.members.proofs.WordLaws.{journal-part}
+use Rattle.control_laws.proofs.Chained.{became-same, became-ranges}
+use Rattle.coded.proofs.StepLaws.{Grown}
+use Rattle.members.proofs.WordLaws.{length-journal-words, length-data-words}
 use Rattle.visit.specs.declared.State.{State}
-use Rattle.visit.specs.declared.Visited.{Visited}
-use Rattle.visit.specs.Found.{entryBy, foundAt}
-use Rattle.unit.specs.declared.Closed.{Closed}
-use Rattle.unit.specs.Closed.{Wrote}
+use Rattle.visit.specs.Found.{entryBy}
 use Rattle.stopping.specs.declared.Ending.{Ending}
-use Rattle.stopping.specs.Ends.{endBy}
-use Rattle.intervention.specs.Stopped.{stoppedBy}
 use Rattle.phase.specs.declared.Transaction.{Transaction}
-use Rattle.phase.specs.declared.Phase.{Phase}
-use Rattle.phase.specs.Walked.{visitsFrom, Ready, isGoing, isErrs, isAllows, endedBy, Walked}
-use Rattle.phase.proofs.Turns.{walk-step, walk-end, walk-off, walk-clip, journal-more, ids-append, data-append}
-use Rattle.phase.proofs.Turns.{controls-append, length-journal, Going, going-more, answer-after, error-after}
-use Rattle.phase.proofs.Turns.{allowed-after, intervention-after, visit-grows, kept-grows, walk-grows, true-false}
-use Rattle.phase.proofs.Parts.{put-part, lent-is, lent-length, whole-length}
-use Rattle.phase.proofs.Found.{entry-is, closed-is, controls-is, next-is, first-is, closes-matched, members-are}
-use Rattle.phase.proofs.Ends.{kindOf, last-kind, error-kind, allow-kind, ending-is, stopping-is}
+use Rattle.phase.specs.Walked.{visitsFrom, Ready, isErrs, isAllows, endedBy, Walked}
+use Rattle.phase.proofs.Turns.{walk-end, ids-append, data-append}
+use Rattle.phase.proofs.Turns.{controls-append, length-journal, Going, answer-after, error-after}
+use Rattle.phase.proofs.Turns.{allowed-after, intervention-after, walk-grows}
+use Rattle.phase.proofs.Parts.{whole-length}
 
 -- what the three lists hold after the visits `done`
 pub record Written (q : Call) (t : Transaction) (ids₀ entries₀ journal₀ : List ℕ) (done : List Visit)

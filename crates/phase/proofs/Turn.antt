@@ -1,14 +1,14 @@
 -- One turn of the loop of `walk_rules`, of what its callees gave. Assumes nothing.
 use Prim.Native.Nat.{ℕ, zero, suc, _+_, _-_, _*_, _/_, _≤_, _<_, _^_, min}
 use mathlib.Core.Path.{_≡_, refl, sym, ap, ap₂, subst, _∙_}
-use mathlib.Core.Bool.{Bool, true, false, not, cond, _&&_, _||_}
+use mathlib.Core.Bool.{Bool, true, false, not, cond, _||_}
 use mathlib.Core.List.{List, [], _∷_, _++_, append-assoc, append-nil}
 use native.Mathlib.Omega.{arith}
 use native.Mathlib.Nat.{add-zero}
 use mir.Syntax.{w64}
 use mir.Val.{Fits}
 use lib.Dec.{eqb}
-use lib.ListN.{length, take, drop, length-append, length-take, drop-of-length-le, take-append-drop}
+use lib.ListN.{length, take, drop, length-append, drop-of-length-le, take-append-drop}
 use lib.Seq.{drop-append-le, take-all}
 use Rattle.reading.specs.declared.DisruptiveOutcome.{DisruptiveOutcome}
 use Rattle.reading.specs.declared.DataEntry.{DataEntry}
@@ -26,15 +26,14 @@ use Rattle.reading.specs.Walk.{givesAllow, isError}
 use Rattle.reading.specs.Controls as plain
 use Rattle.reading.specs.Call.{Call, ruleCount, modeUnder, isLink}
 use Rattle.reading.specs.Units.{unitIds, unitData, unitControls, unitFlow, unitDisruptive, unitIntervention}
-use Rattle.reading.specs.Walk.{Visit, isLast, entryOf, journalOf, idsOf, dataOf, controlsAfter, walk, verdictAt, visitAt, visitBy}
+use Rattle.reading.specs.Walk.{Visit, isLast, entryOf, journalOf, idsOf, dataOf, controlsAfter, walk, verdictAt, visitAt}
 use Rattle.reading.specs.Walk.{afterFlow}
-use Rattle.reading.specs.Walk.{answerBy, errorIndexBy, allowedBy, interventionBy}
 use Rattle.theorems.specs.Rising.{goes-ahead}
 use Rattle.control.specs.declared.Controls.{Controls}
 use Rattle.control.specs.Held.{controlsOf, Became}
-use Rattle.control_laws.proofs.Chained.{became-same, became-then, became-ranges}
+use Rattle.control_laws.proofs.Chained.{became-same, became-then}
 use Rattle.coded.specs.Coded.{unitCoded}
-use Rattle.coded.proofs.StepLaws.{Grown, grown-then}
+use Rattle.coded.proofs.StepLaws.{Grown}
 use Rattle.coded.proofs.Fits.{sourceOf, unit-fits}
 use Rattle.lists.proofs.RecordLaws.{length-rules}
 use Rattle.members.proofs.MatchedLaws.{matched-append}
@@ -70,14 +69,6 @@ new-of give false part unit closed e h = rw e
 or-by : (a b : Bool) → (a || b) ≡ false → (a ≡ false) × (b ≡ false)
 or-by true b e = absurd (true-false e)
 or-by false b e = (refl, e)
-
-and-by : (a b : Bool) → (a && b) ≡ true → a ≡ true
-and-by true b e = refl
-and-by false b e = e
-
-not-by : (b : Bool) → not b ≡ false → b ≡ true
-not-by true e = refl
-not-by false e = absurd (true-false e)
 
 take-none : {A : Type 0} (n : ℕ) → take {A = A} n [] ≡ []
 take-none zero = refl

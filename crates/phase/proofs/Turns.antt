@@ -1,19 +1,19 @@
 -- Laws of the walk: its turns, lists of its visits with one more, and visits none of which is the last. Assumes nothing.
 use Prim.Native.Nat.{ℕ, zero, suc, _+_, _-_, _≤_, _<_, min}
-use mathlib.Core.Path.{_≡_, refl, sym, ap, subst, _∙_}
-use mathlib.Core.Bool.{Bool, true, false, not, cond, _&&_, _||_}
-use mathlib.Core.List.{List, [], _∷_, _++_, append-assoc, append-nil}
+use mathlib.Core.Path.{_≡_, refl, sym, ap, _∙_}
+use mathlib.Core.Bool.{Bool, true, false, not, cond, _&&_}
+use mathlib.Core.List.{List, [], _∷_, _++_, append-assoc}
 use native.Mathlib.Omega.{arith}
 use borrow.Author.Tests.{lt-ltb, le-ltb, ltb-true, ltb-false}
 use lib.Dec.{ltb}
-use lib.ListN.{length, length-append}
+use lib.ListN.{length}
 use Rattle.reading.specs.declared.OptionIntervention.{OptionIntervention}
 use Rattle.reading.specs.declared.JournalEntry.{JournalEntry}
 use Rattle.reading.specs.declared.Verdict.{Verdict}
 use Rattle.reading.specs.Lists.{keep, gather}
 use Rattle.reading.specs.Controls.{Controls, isOff}
 use Rattle.reading.specs.Call.{Call, ruleCount, modeUnder, isLink}
-use Rattle.reading.specs.Units.{unitIds, unitData, unitControls}
+use Rattle.reading.specs.Units.{unitIds, unitData}
 use Rattle.reading.specs.Walk.{State, Visit, Ending, goesOn, allows, errs, stops, isLast, visitBy, visitAt, verdictAt, isVisited}
 use Rattle.reading.specs.Walk.{walk, entryOf, journalOf, closedIn, idsOf, dataOf, controlsAfter, givesAllow, allowedBy}
 use Rattle.reading.specs.Walk.{interventionOr, interventionBy, isError, answerBy, errorIndexBy}

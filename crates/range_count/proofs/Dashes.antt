@@ -9,7 +9,7 @@ use lib.Dec.{ltb, eqb, leb·suc-suc, eqb·suc-zero}
 use lib.ListN.{length, take, drop}
 use Rattle.reading.specs.declared.Number.{Number}
 use Rattle.reading.specs.declared.IdPart.{IdPart}
-use Rattle.reading.specs.Text.{isBlank, trimStart, before, trimEnd, trim, numberOf, indexOf, holdsByte, cutBefore, cutBehind, oneId, idsFrom, trimmedPart, idPart}
+use Rattle.reading.specs.Text.{isBlank, trimStart, before, trimEnd, trim, numberOf, indexOf, holdsByte, cutBefore, cutBehind, oneId, idsFrom, idPart}
 use Rattle.range_count.specs.declared.Stage.{Stage}
 use Rattle.range_count.proofs.Numbers.{numFrom, num-start, before-other, trim-other, trim-blank, num-blank-start}
 

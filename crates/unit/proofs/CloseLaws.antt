@@ -1,6 +1,6 @@
 -- What closing a unit comes to, of what the callees gave. Assumes nothing.
 use Prim.Native.Nat.{ℕ, _/_, min}
-use mathlib.Core.Path.{_≡_, refl, sym, ap, _∙_}
+use mathlib.Core.Path.{_≡_, ap, _∙_}
 use mathlib.Core.Bool.{Bool, true, false}
 use mathlib.Core.List.{List, []}
 use lib.ListN.{length, take, getD}
@@ -15,10 +15,9 @@ use Rattle.reading.specs.Numbers.{listOf}
 use Rattle.reading.specs.Records.{ruleList, actionList, journalList, matchedIn}
 use Rattle.reading.specs.Actions.{actionsOf, lastFlow, lastDisruptive}
 use Rattle.reading.specs.Call.{Call, ruleCount, noRule, recordId, ruleAt, idAt, outcomeAt, actionsAt}
-use Rattle.reading.specs.Units.{starterOf, unitIds, unitData, unitFlow, unitDisruptive}
+use Rattle.reading.specs.Units.{starterOf, unitData, unitFlow, unitDisruptive}
 use Rattle.reading.specs.Walk.{afterFlow}
 use Rattle.members.specs.Given.{Rest, callWith}
-use Rattle.unit.specs.declared.Closed.{Closed}
 use Rattle.unit.specs.Closed.{memberEntry, Listed, Wrote}
 
 module _ (phase : ℕ) (rules actions markers text outcomes members : List ℕ) (rest : Rest) (behind : ℕ) (ids entries : List ℕ)

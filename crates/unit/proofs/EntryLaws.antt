@@ -1,20 +1,18 @@
 -- The id and the data entries of a unit, written to lent parts. Assumes nothing.
-use Prim.Native.Nat.{ℕ, zero, suc, _+_, _-_, _*_, _/_, _≤_, _<_, min}
-use mathlib.Core.Path.{_≡_, refl, sym, ap, ap₂, subst, _∙_}
-use mathlib.Core.Bool.{Bool, true, false, cond, _&&_}
-use mathlib.Core.List.{List, [], _∷_, _++_, append-assoc, append-nil}
+use Prim.Native.Nat.{ℕ, suc, _+_, _-_, _*_, _/_, _≤_, _<_}
+use mathlib.Core.Path.{_≡_, refl, sym, ap, subst, _∙_}
+use mathlib.Core.Bool.{Bool, true, false, _&&_}
+use mathlib.Core.List.{List, [], _∷_, _++_, append-nil}
 use native.Mathlib.Omega.{arith}
-use native.Mathlib.Numerals.{add-one}
 use borrow.Author.Tests.{lt-ltb, le-ltb, eq-eqb, ne-eqb, ltb-true, ltb-false}
 use lib.Dec.{ltb, eqb}
-use lib.ListN.{length, take, drop, getD, set, length-append, length-take}
+use lib.ListN.{length, take, drop, getD, set, length-take}
 use lib.Seq.{sets, length-take-le, take-nil}
 use Rattle.reading.specs.declared.OptionU64.{OptionU64}
 use Rattle.reading.specs.declared.DataEntry.{DataEntry}
-use Rattle.reading.specs.declared.JournalEntry.{JournalEntry}
 use Rattle.reading.specs.Lists.{keep, over, gather}
 use Rattle.reading.specs.Numbers.{listOf}
-use Rattle.reading.specs.Records.{dataWords, journalFrom, journalList, matchedIn}
+use Rattle.reading.specs.Records.{dataWords, journalList, matchedIn}
 use Rattle.lists.proofs.Filled.{Filled, filled-start, filled-done, filled-put}
 use Rattle.members.proofs.MatchedLaws.{next-entries}
 use Rattle.lists.proofs.RecordLaws.{entries-end}

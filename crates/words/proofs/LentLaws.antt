@@ -5,16 +5,16 @@ use mathlib.Core.Path.{_≡_, refl, sym, _∙_, ap, subst}
 use mathlib.Core.Bool.{Bool, true, false, cond, _||_}
 use mathlib.Core.List.{List, [], _∷_, _++_}
 use native.Mathlib.Omega.{arith}
-use borrow.Author.Tests.{lt-ltb, le-ltb, ltb-true, ltb-false, ne-eqb}
-use lib.Dec.{ltb, eqb}
+use borrow.Author.Tests.{lt-ltb, ltb-true, ltb-false, ne-eqb}
+use lib.Dec.{ltb}
 use lib.ListN.{length, take, drop, replicate}
-use lib.Seq.{take-length, take-append-le, length-take-le}
+use lib.Seq.{take-length, length-take-le}
 use Rattle.reading.specs.declared.Marker.{Marker}
 use Rattle.reading.specs.Lists.{keep, over}
 use Rattle.reading.specs.Records.{values, markerFrom, markerList, journalWords, dataWords}
 use Rattle.reading.specs.Call.{Call, ruleCount}
-use Rattle.reading.specs.Refusals.{refusalOf, refused1, refused2, isAccepted}
-use Rattle.reading.specs.Walk.{Visit, walkOf, journalOf, idsOf, dataOf, answerBy, errorIndexBy}
+use Rattle.reading.specs.Refusals.{refusalOf, refused1, refused2}
+use Rattle.reading.specs.Walk.{Visit, walkOf, journalOf, dataOf}
 use Rattle.reading.specs.Outcome.{Outcome, visitsOf, outcomeOf, atFreeEnd, transactionAfter}
 use Rattle.reading.specs.Demand3.{Demand3}
 use Rattle.theorems.specs.Demands.{demand3}

@@ -1,10 +1,7 @@
 -- `markers::kept` meets its contract: each `return` rewrites with the test. Assumes nothing.
 use borrow.Author.Tests.{lt-ltb, le-ltb}
-use borrow.Author.Needs.{needs}
 use Rattle.markers.proofs.kept.Statement.{statement}
 use Rattle.markers.proofs.kept.Tie as tie
-use Rattle.markers.proofs.kept.Reads as reads
-use Rattle.markers.proofs.kept.Lts as lts
 
 returns : tie.Need-returns
 returns c = simp (lt-ltb _ _ (c .if1 .taken))

@@ -3,8 +3,6 @@ use borrow.Author.Needs.{needs}
 use Rattle.markers.specs.Unpacked.{wordsOf}
 use Rattle.markers.proofs.zeros.Statement.{statement}
 use Rattle.markers.proofs.zeros.Tie as tie
-use Rattle.markers.proofs.zeros.Reads as reads
-use Rattle.markers.proofs.zeros.Lts as lts
 
 returns : tie.Need-returns
 unfolding wordsOf

@@ -1,7 +1,6 @@
 -- `transaction::run_phase` meets its contract.
 use Prim.Native.Nat.{ℕ, _≤_, _/_, _-_}
-use mathlib.Core.Path.{_≡_, refl, sym, _∙_}
-use mathlib.Core.Bool.{false}
+use mathlib.Core.Path.{_≡_, sym, _∙_}
 use mathlib.Core.List.{List, [], _++_, append-nil}
 use native.Mathlib.Omega.{arith}
 use denote.Ref.{now}

@@ -1,5 +1,4 @@
 -- `unit::close_unit` meets its contract.
-use mathlib.Core.Path.{_≡_, sym, ap, _∙_}
 use denote.Ref.{now}
 use Rattle.unit.proofs.CloseLaws.{open-still, closed-now}
 use borrow.Author.Needs.{needs}

@@ -1,6 +1,6 @@
 -- `unit::put_entries` meets its contract.
 use Prim.Native.Nat.{ℕ, _+_, _-_, _*_, _/_, _<_, _^_}
-use mathlib.Core.Path.{_≡_, refl, sym, ap, _∙_}
+use mathlib.Core.Path.{_≡_}
 use mathlib.Core.List.{List, [], _∷_}
 use mathlib.Core.Bool.{_&&_}
 use lib.Dec.{eqb}

@@ -1,8 +1,7 @@
 -- `unit::put_entry` meets its contract.
-use Prim.Native.Nat.{_+_, _*_, _<_, _/_}
 use native.Mathlib.Omega.{arith}
 use denote.Ref.{now}
-use lib.ListN.{length, set, length-set}
+use lib.ListN.{length-set}
 use Rattle.unit.proofs.EntryLaws.{no-match, no-variable, put-nothing, put-no-place, put-one}
 use borrow.Author.Needs.{needs}
 use borrow.Author.Needs.{needs}

@@ -1,5 +1,4 @@
 -- `visit::visit` meets its contract.
-use mathlib.Core.Path.{_≡_}
 use denote.Ref.{now}
 use Rattle.visit.proofs.FoundLaws.{behind, missed, failed, waits, breaks, closes, passes}
 use borrow.Author.Needs.{needs}

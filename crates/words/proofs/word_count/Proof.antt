@@ -3,8 +3,6 @@ use borrow.Author.Tests.{lt-ltb, le-ltb}
 use borrow.Author.Needs.{needs}
 use Rattle.words.proofs.word_count.Statement.{statement}
 use Rattle.words.proofs.word_count.Tie as tie
-use Rattle.words.proofs.word_count.Reads as reads
-use Rattle.words.proofs.word_count.Lts as lts
 
 returns : tie.Need-returns
 returns c = simp (lt-ltb _ _ (c .if1 .taken))
