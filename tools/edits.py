@@ -24,7 +24,12 @@ def programs(edit):
             elif line.startswith("old: "):
                 old = line[5:]
             elif line.startswith("new:"):
-                pairs.append((path, old, line[4:].removeprefix(" ")))
+                new = line[4:].removeprefix(" ")
+                if new == old:
+                    raise SystemExit(f"{edit}: changes nothing: {old}")
+                pairs.append((path, old, new))
+            elif not line.startswith("#"):
+                raise SystemExit(f"{edit}: neither a comment nor file:, old: or new:, {line}")
         yield os.path.basename(edit)[:-5] if len(parts) == 1 else named.group(1), table and table.group(1), pairs
 
 

@@ -80,7 +80,7 @@ fn run_records(
 // A case at its `end`, which stands alone in its line.
 fn run_case(
     s: &[u8],
-    words: usize,
+    word_count: usize,
     c: Case,
     rules: &[u64; 80],
     actions: &[u64; 384],
@@ -90,7 +90,7 @@ fn run_case(
     let n = c.rules;
     let a = c.actions;
     let m = c.markers;
-    if words != 1 {
+    if word_count != 1 {
         return Step::Bad;
     }
     if 16 < n {

@@ -16,6 +16,7 @@ use Rattle.reading.specs.Refusals.{refused1, refused2, refused3, refused4, refu
 use Rattle.reading.specs.Walk.{Visit}
 use Rattle.reading.specs.Outcome.{Outcome, visitsOf, outcomeOf, transactionAfter}
 use Rattle.lists.proofs.RecordLaws.{length-markers}
+use Rattle.theorems.specs.Demands.{or-false-is}
 use Rattle.control.specs.Held.{Became}
 use Rattle.control_laws.proofs.Determined.{SameSizes, determined}
 use Rattle.control.proofs.HeldLaws.{ranges-length, targets-length}
@@ -192,10 +193,6 @@ no-entries : {A : Type 0} (l : List A) → length l ≡ 0 → l ≡ []
 no-entries [] e = refl
 no-entries (x ∷ l) e = absurd (omega (arith, e))
 
-or-none : (b : Bool) → (b || false) ≡ b
-or-none true = refl
-or-none false = refl
-
 plus-none : (n : ℕ) → n + 0 ≡ n
 plus-none n = omega arith
 
@@ -204,7 +201,7 @@ unfolding outcomeOf
 kept-transaction p e =
     (λ i. record {
       controls = p .transaction .controls;
-      allowed = sym (or-none (p .transaction .allowed)) i;
+      allowed = sym (or-false-is (p .transaction .allowed)) i;
       intervention = p .transaction .intervention;
       ids = sym (plus-none (p .transaction .ids)) i;
       data-entries = sym (plus-none (p .transaction .data-entries)) i;

@@ -15,6 +15,7 @@ use Rattle.reading.specs.declared.BodyAccess.{BodyAccess}
 use Rattle.reading.specs.declared.BodyProcessor.{BodyProcessor}
 use Rattle.reading.specs.Lists.{keep, over, total}
 use Rattle.reading.specs.Text.{partOf}
+use Rattle.reading.specs.Controls.{mostRanges, mostTargets}
 use Rattle.reading.specs.Directive.{Directive, ruleEngine, ruleRemoveById, ruleRemoveTargetById}
 use Rattle.reading.specs.Directive.{requestBodyAccess, requestBodyProcessor, unsupported}
 use Rattle.reading.specs.Directive.{directiveOf, withoutLists, rangeCount, targetCount}
@@ -154,11 +155,11 @@ module _ (q : Call) where
       ∙ (ap (λ (w : Action → ℕ). total w (take (r .count) (drop (r .first) (q .actions)))) (fun-ext (targets-coded (q .text)))
       ∙ sym (rule-total q targetCount r))
 
-  ranges-exceed : addsBeyond rangesCoded 256 ranges (q .rules) codes ≡ refused8 q
+  ranges-exceed : addsBeyond rangesCoded mostRanges ranges (q .rules) codes ≡ refused8 q
   unfolding refused8
   ranges-exceed = exceeds-alike ranges _ _ (total-alike _ _ ranges-rule (q .rules))
 
-  targets-exceed : addsBeyond targetsCoded 64 targets (q .rules) codes ≡ refused9 q
+  targets-exceed : addsBeyond targetsCoded mostTargets targets (q .rules) codes ≡ refused9 q
   unfolding refused9
   targets-exceed = ap (λ (w : Rule → ℕ). ltb 64 (targets + total w (q .rules))) (fun-ext targets-rule)
 

@@ -7,6 +7,7 @@ use lib.Dec.{eqb, ltb}
 use lib.ListN.{length, take, drop, getD}
 use Rattle.reading.specs.declared.Rule.{Rule}
 use Rattle.reading.specs.Lists.{total}
+use Rattle.reading.specs.Controls.{mostRanges, mostTargets}
 
 -- how many ranges, and how many targets, the action of a code adds
 abbrev pub rangesCoded : ℕ → ℕ
@@ -28,11 +29,12 @@ weightBy false = rangesCoded
 abbrev pub addsBeyond : (ℕ → ℕ) → ℕ → ℕ → List Rule → List ℕ → Bool
 addsBeyond weight limit held rules codes = ltb limit (held + total (ruleWeight weight codes) rules)
 
--- the first of refusals 8 and 9 that applies, to so many held ranges and targets, or 0
+-- the first of refusals 8 and 9 that applies, to so many held ranges and targets, or 0. By the codes of a call's actions it is the
+-- definitions' own (`limit-is` in proofs/Refused.antt)
 abbrev pub limitRefusal : List Rule → List ℕ → ℕ → ℕ → ℕ
 limitRefusal rules codes ranges targets =
-    cond (addsBeyond rangesCoded 256 ranges rules codes) 8
-    (cond (addsBeyond targetsCoded 64 targets rules codes) 9 0)
+    cond (addsBeyond rangesCoded mostRanges ranges rules codes) 8
+    (cond (addsBeyond targetsCoded mostTargets targets rules codes) 9 0)
 
 -- each sum is the weight of as many codes as stand before it; there is one more than there are codes
 pub record Summed (weight : ℕ → ℕ) (codes sums : List ℕ) : Type 0 where

@@ -14,6 +14,7 @@ use Rattle.reading.specs.Controls as reading
 use Rattle.reading.specs.Call.{Call, ruleCount, modeUnder}
 use Rattle.reading.specs.Walk.{Visit, journalOf, idsOf, dataOf, controlsAfter, allowedBy}
 use Rattle.reading.specs.Walk.{interventionBy, answerBy, errorIndexBy, walk}
+use Rattle.theorems.specs.Limits.{length-journal}
 use Rattle.control.specs.declared.Controls.{Controls}
 use Rattle.control.specs.Held.{controlsOf, Became}
 use Rattle.control_laws.proofs.Chained.{became-same, became-ranges}
@@ -25,7 +26,7 @@ use Rattle.stopping.specs.declared.Ending.{Ending}
 use Rattle.phase.specs.declared.Transaction.{Transaction}
 use Rattle.phase.specs.Walked.{visitsFrom, Ready, isErrs, isAllows, endedBy, Walked}
 use Rattle.phase.proofs.Turns.{walk-end, ids-append, data-append}
-use Rattle.phase.proofs.Turns.{controls-append, length-journal, Going, answer-after, error-after}
+use Rattle.phase.proofs.Turns.{controls-append, Going, answer-after, error-after}
 use Rattle.phase.proofs.Turns.{allowed-after, intervention-after, walk-grows}
 use Rattle.phase.proofs.Parts.{whole-length}
 

@@ -19,8 +19,8 @@ use Rattle.reading.specs.Refusals.{refused6, refused7, refused8, refused9}
 use Rattle.reading.specs.Outcome.{visitsOf, outcomeOf, atFreeEnd, ifNone}
 use Rattle.reading.specs.Demand3.{Demand3}
 use Rattle.theorems.specs.Demands.{AsLent, demand3, refused-as-lent, idle-as-lent}
-use Rattle.theorems.specs.Demands.{refused-answer, idle-answer, accepted-answer}
-use Rattle.theorems.specs.Limits.{Passed, passed, Free, not-seventh, or-false, Within, accepted-within}
+use Rattle.theorems.specs.Demands.{none-held, or-none, refused-answer, idle-answer, accepted-answer}
+use Rattle.theorems.specs.Limits.{Passed, passed, next-one, Free, not-seventh, or-false, Within, accepted-within}
 use Rattle.theorems.specs.Limits.{accepted-visits, ids-within, data-within, visits-within, length-journal}
 use Rattle.lists.proofs.RecordLaws.{length-records}
 use Rattle.members.proofs.WordLaws.{journal-over, data-free-end}
@@ -42,10 +42,6 @@ one-same false n x y f h = f h
 one-past : (b : Bool) (n x y z : ℕ) → (y ≡ 0 → x ≡ z) → cond b (suc n) y ≡ 0 → cond b (suc n) x ≡ z
 one-past true n x y z f h = absurd (omega arith)
 one-past false n x y z f h = f h
-
-one-false : (b : Bool) (n m : ℕ) → cond b (suc n) m ≡ 0 → (b ≡ false) × (m ≡ 0)
-one-false true n m e = absurd (omega arith)
-one-false false n m e = (refl, e)
 
 not-false : (b : Bool) → not b ≡ false → b ≡ true
 not-false true e = refl
@@ -86,19 +82,11 @@ module _ (q : Call) where
   pub few-of-seven : firstOfSeven q ≡ 0 → length (q .actions) ≤ 4096
   unfolding firstOfSeven
   few-of-seven e =
-      let p1 = one-false (refused1 q) 0 _ e in
-      let p2 = one-false (refused2 q) 1 _ (p1 .1) in
+      let p1 = next-one (refused1 q) 0 _ e in
+      let p2 = next-one (refused2 q) 1 _ (p1 .1) in
       few-actions q (p2 .0)
 
 -- THE PROMISE
-
-none-held : (i : OptionIntervention) → isStopped i ≡ false → i ≡ OptionIntervention.None
-none-held OptionIntervention.None e = refl
-none-held (OptionIntervention.Some i) e = absurd (let y : _≡_ {A = ℕ} 0 1 = cc in omega arith)
-
-or-none : (i : OptionIntervention) → ifNone i OptionIntervention.None ≡ i
-or-none OptionIntervention.None = refl
-or-none (OptionIntervention.Some i) = refl
 
 -- what is to do: not allowed, not stopped, and the mode not Off
 pub record Busy (q : Call) : Type 0 where
@@ -127,7 +115,7 @@ fresh-is t a n = λ i. record {
   entries = t .entries;
 }
 
-refused-visits : (q : Call) → (refusalOf q ≡ 0 → ⊥) → visitsOf q ≡ []
+pub refused-visits : (q : Call) → (refusalOf q ≡ 0 → ⊥) → visitsOf q ≡ []
 unfolding visitsOf
 refused-visits q h = ap (λ (b : Bool). keep b (walkOf q)) (ne-eqb (refusalOf q) 0 h)
 

@@ -28,6 +28,8 @@ use Rattle.reading.specs.Call.{Call, ruleCount, modeUnder, isLink}
 use Rattle.reading.specs.Units.{unitIds, unitData, unitControls, unitFlow, unitDisruptive, unitIntervention}
 use Rattle.reading.specs.Walk.{Visit, isLast, entryOf, journalOf, idsOf, dataOf, controlsAfter, walk, verdictAt, visitAt}
 use Rattle.reading.specs.Walk.{afterFlow}
+use Rattle.theorems.specs.Limits.{or-false, length-journal}
+use Rattle.theorems.specs.Demands.{or-false-is}
 use Rattle.theorems.specs.Rising.{goes-ahead}
 use Rattle.control.specs.declared.Controls.{Controls}
 use Rattle.control.specs.Held.{controlsOf, Became}
@@ -51,7 +53,7 @@ use Rattle.intervention.specs.Stopped.{stoppedBy}
 use Rattle.phase.specs.declared.Transaction.{Transaction}
 use Rattle.phase.specs.Walked.{visitsFrom, Ready, isGoing, isErrs, isAllows, endedBy, Walked}
 use Rattle.phase.proofs.Turns.{walk-step, walk-off, walk-clip, journal-more, ids-append, data-append, controls-append}
-use Rattle.phase.proofs.Turns.{length-journal, going-more, answer-after, error-after, allowed-after, intervention-after}
+use Rattle.phase.proofs.Turns.{going-more, answer-after, error-after, allowed-after, intervention-after}
 use Rattle.phase.proofs.Turns.{visit-grows, kept-grows, walk-grows, true-false}
 use Rattle.phase.proofs.Parts.{free-length, put-in, put-free}
 use Rattle.phase.proofs.Found.{entry-is, closed-is, controls-is, next-is, first-is, closes-matched, members-are}
@@ -65,10 +67,6 @@ new-of : {A : Type 0} (give : List ℕ → List A) (closes : Bool) (part unit : 
     → (closes ≡ true → part ≡ unit) → keep closes (give part) ≡ gather give (closed ++ [])
 new-of give true part unit closed e h = rw (e, append-nil (give unit)) (ap give (h refl))
 new-of give false part unit closed e h = rw e
-
-or-by : (a b : Bool) → (a || b) ≡ false → (a ≡ false) × (b ≡ false)
-or-by true b e = absurd (true-false e)
-or-by false b e = (refl, e)
 
 take-none : {A : Type 0} (n : ℕ) → take {A = A} n [] ≡ []
 take-none zero = refl
@@ -619,16 +617,12 @@ module _ (turn : Turning) where
             (rw d became-now)
             (rw (d, answer-after (so .done) (v ∷ []) (so .going)) (ap (λ (b : Bool). cond b 10 0) errs))
             (rw (d, error-after (so .done) (v ∷ []) (so .going)) (ap (λ (b : Bool). cond b (s .next) 0) errs ∙ index-now))
-            (rw (d, allowed-after (so .done) (v ∷ []) (so .going)) (gives ∙ sym (or-none (givesAllow (v .ending)))))
+            (rw (d, allowed-after (so .done) (v ∷ []) (so .going)) (gives ∙ sym (or-false-is (givesAllow (v .ending)))))
             (rw (d, intervention-after (so .done) (v ∷ []) (so .going))
             (stop-is ∙ (ap (λ (x : Ending). stoppedBy x (unitIntervention q part)) (sym kind-is)
             ∙ sym (stopping-is q reading (so .members) (controlsOf c) s visits inside found found-is w w-is
             (unitIntervention q part) (λ x. ap (unitIntervention q) (unit-part x))))))
           where
-            or-none : (b : Bool) → (b || false) ≡ b
-            or-none true = refl
-            or-none false = refl
-
             index-now : cond (isError (v .ending)) (s .next) 0 ≡ cond (isError (v .ending)) (v .index) 0
             index-now =
                 ap (λ (x : JournalEntry). cond (isError (v .ending)) (x .index) 0)
@@ -656,7 +650,7 @@ module _ (turn : Turning) where
             }
           where
             both : (not (isGoing e) ≡ false) × (isOff (modeUnder q (controlsOf c′)) ≡ false)
-            both = or-by (not (isGoing e)) (isOff (modeUnder q (controlsOf c′))) h
+            both = or-false (not (isGoing e)) (isOff (modeUnder q (controlsOf c′))) h
 
             going-on : isLast (v .ending) ≡ false
             going-on = last-is ∙ both .0

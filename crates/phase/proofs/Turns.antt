@@ -6,8 +6,6 @@ use mathlib.Core.List.{List, [], _∷_, _++_, append-assoc}
 use native.Mathlib.Omega.{arith}
 use borrow.Author.Tests.{lt-ltb, le-ltb, ltb-true, ltb-false}
 use lib.Dec.{ltb}
-use lib.ListN.{length}
-use Rattle.reading.specs.declared.OptionIntervention.{OptionIntervention}
 use Rattle.reading.specs.declared.JournalEntry.{JournalEntry}
 use Rattle.reading.specs.declared.Verdict.{Verdict}
 use Rattle.reading.specs.Lists.{keep, gather}
@@ -16,7 +14,8 @@ use Rattle.reading.specs.Call.{Call, ruleCount, modeUnder, isLink}
 use Rattle.reading.specs.Units.{unitIds, unitData}
 use Rattle.reading.specs.Walk.{State, Visit, Ending, goesOn, allows, errs, stops, isLast, visitBy, visitAt, verdictAt, isVisited}
 use Rattle.reading.specs.Walk.{walk, entryOf, journalOf, closedIn, idsOf, dataOf, controlsAfter, givesAllow, allowedBy}
-use Rattle.reading.specs.Walk.{interventionOr, interventionBy, isError, answerBy, errorIndexBy}
+use Rattle.reading.specs.Walk.{interventionBy, isError, answerBy, errorIndexBy}
+use Rattle.theorems.specs.Replayed.{not-last}
 use Rattle.coded.proofs.StepLaws.{Grown, grown-same, grown-then}
 use Rattle.coded.proofs.Fits.{grows}
 
@@ -84,10 +83,6 @@ pub controls-append : (c : Controls) (l m : List Visit) → controlsAfter c (l +
 controls-append c [] m = refl
 controls-append c (w ∷ l) m = controls-append (w .after .controls) l m
 
-pub length-journal : (l : List Visit) → length (journalOf l) ≡ length l
-length-journal [] = refl
-length-journal (v ∷ l) = ap suc (length-journal l)
-
 -- VISITS NONE OF WHICH IS THE LAST
 
 abbrev pub Going : List Visit → Type 0
@@ -113,12 +108,6 @@ no-allow allows h = h
 no-allow errs h = refl
 no-allow (stops i) h = refl
 
-no-stop : (e : Ending) (other : OptionIntervention) → isLast e ≡ false → interventionOr e other ≡ other
-no-stop goesOn other h = refl
-no-stop allows other h = refl
-no-stop errs other h = refl
-no-stop (stops i) other h = absurd (true-false h)
-
 pub answer-after : (l m : List Visit) → Going l → answerBy (l ++ m) ≡ answerBy m
 answer-after [] m g = refl
 answer-after (v ∷ l) m g = rw (no-error (v .ending) (g .0)) (answer-after l m (g .1))
@@ -133,7 +122,7 @@ allowed-after (v ∷ l) m g = rw (no-allow (v .ending) (g .0)) (allowed-after l 
 
 pub intervention-after : (l m : List Visit) → Going l → interventionBy (l ++ m) ≡ interventionBy m
 intervention-after [] m g = refl
-intervention-after (v ∷ l) m g = no-stop (v .ending) (interventionBy (l ++ m)) (g .0) ∙ intervention-after l m (g .1)
+intervention-after (v ∷ l) m g = not-last (v .ending) (interventionBy (l ++ m)) (g .0) ∙ intervention-after l m (g .1)
 
 -- THE CONTROLS ONLY GROW
 

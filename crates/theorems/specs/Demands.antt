@@ -40,11 +40,11 @@ unfolding outcomeOf
 found-is q =
     rw (← length-journal (visitsOf q)) (take-front (journalOf (visitsOf q)) (drop (length (journalOf (visitsOf q))) (q .journal)))
 
-none-held : (i : OptionIntervention) → isStopped i ≡ false → i ≡ OptionIntervention.None
+pub none-held : (i : OptionIntervention) → isStopped i ≡ false → i ≡ OptionIntervention.None
 none-held OptionIntervention.None e = refl
 none-held (OptionIntervention.Some i) e = absurd (let y : _≡_ {A = ℕ} 0 1 = cc in omega arith)
 
-or-none : (i : OptionIntervention) → ifNone i OptionIntervention.None ≡ i
+pub or-none : (i : OptionIntervention) → ifNone i OptionIntervention.None ≡ i
 or-none OptionIntervention.None = refl
 or-none (OptionIntervention.Some i) = refl
 
@@ -201,7 +201,7 @@ pub record AsLent (q : Call) (o : Outcome) : Type 0 where
   pub data-entries : o .data-entries ≡ q .data-entries
   pub transaction : o .transaction ≡ q .transaction
 
-or-false-is : (b : Bool) → (b || false) ≡ b
+pub or-false-is : (b : Bool) → (b || false) ≡ b
 or-false-is true = refl
 or-false-is false = refl
 

@@ -283,7 +283,7 @@ pub record Passed (q : Call) : Type 0 where
   pub ninth : refused9 q ≡ false
 
 -- a refusal that does not apply, and what is left
-next-one : (b : Bool) (n m : ℕ) → cond b (suc n) m ≡ 0 → (b ≡ false) × (m ≡ 0)
+pub next-one : (b : Bool) (n m : ℕ) → cond b (suc n) m ≡ 0 → (b ≡ false) × (m ≡ 0)
 next-one true n m e = absurd (omega arith)
 next-one false n m e = (refl, e)
 

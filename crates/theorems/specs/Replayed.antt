@@ -94,7 +94,7 @@ module _ (q : Call) (st : State) where
   stop-is Verdict.Error l = refl
 
 -- a visit that is not the last gives no intervention
-not-last : (e : Ending) (other : OptionIntervention) → isLast e ≡ false → interventionOr e other ≡ other
+pub not-last : (e : Ending) (other : OptionIntervention) → isLast e ≡ false → interventionOr e other ≡ other
 not-last goesOn other h = refl
 not-last allows other h = refl
 not-last errs other h = refl

@@ -15,6 +15,7 @@ use Rattle.reading.specs.Numbers.{listOf}
 use Rattle.reading.specs.Records.{dataWords, journalList, matchedIn}
 use Rattle.lists.proofs.Filled.{Filled, filled-start, filled-done, filled-put}
 use Rattle.members.proofs.MatchedLaws.{next-entries}
+use Rattle.members.proofs.WordLaws.{length-data-words, data-words-append}
 use Rattle.lists.proofs.RecordLaws.{entries-end}
 use Rattle.unit.specs.Closed.{fitting, Put, Listed}
 
@@ -69,14 +70,6 @@ put-one a b e w words h k l =
       words = rw (eq-eqb a 1 h, eq-eqb b 2 k, lt-ltb w (length words / 4) l, i, j, m);
     }
 
-length-data : (es : List DataEntry) → length (dataWords es) ≡ 4 * length es
-length-data [] = refl
-length-data (e ∷ es) = omega (arith, length-data es)
-
-data-append : (es fs : List DataEntry) → dataWords (es ++ fs) ≡ dataWords es ++ dataWords fs
-data-append [] fs = refl
-data-append (e ∷ es) fs = ap (λ (l : List ℕ). e .present ∷ e .id ∷ e .phase ∷ e .index ∷ l) (data-append es fs)
-
 -- the first entries that fit, by the first one or none
 take-fit : (room w : ℕ) (new rest : List DataEntry) → length new ≤ 1
     → take (room - w) (new ++ rest) ≡ keep (ltb w room) new ++ take (room - (w + length (keep (ltb w room) new))) rest
@@ -108,7 +101,7 @@ module _ (all : List DataEntry) (old : List ℕ) where
   pub sofar-start : Sofar all all old old 0
   sofar-start =
       let z : room - 0 ≡ room = omega arith in
-      let l : length (dataWords (take room all)) ≤ length old = omega (arith, length-data (take room all), length-take room all)
+      let l : length (dataWords (take room all)) ≤ length old = omega (arith, length-data-words (take room all), length-take room all)
       in
       rw z (filled-start (dataWords (take room all)) old l)
 
@@ -120,11 +113,11 @@ module _ (all : List DataEntry) (old : List ℕ) where
       let n : w′ ≡ w + length fit = p .next-is ∙ ap (λ (l : List DataEntry). w + length l) same in
       let t : dataWords (take (room - w) todo) ≡ dataWords fit ++ dataWords (take (room - w′) rest)
       = ap (λ (l : List DataEntry). dataWords (take (room - w) l)) e
-      ∙ (ap dataWords (take-fit room w new rest h) ∙ (data-append fit (take (room - (w + length fit)) rest)
+      ∙ (ap dataWords (take-fit room w new rest h) ∙ (data-words-append fit (take (room - (w + length fit)) rest)
       ∙ ap (λ (k : ℕ). dataWords fit ++ dataWords (take (room - k) rest)) (sym n))) in
       let f = subst (λ (l : List ℕ). Filled (dataWords (take room all)) l old cur (4 * w)) t s in
       let g = filled-put (dataWords fit) (dataWords (take room all)) (dataWords (take (room - w′) rest)) old cur (4 * w) f in
-      let k : 4 * w + length (dataWords fit) ≡ 4 * w′ = omega (arith, length-data fit, n) in
+      let k : 4 * w + length (dataWords fit) ≡ 4 * w′ = omega (arith, length-data-words fit, n) in
       let c : cur′ ≡ sets cur (4 * w) (dataWords fit) = p .words ∙ ap (λ (l : List DataEntry). sets cur (4 * w) (dataWords l))
       same in
       rw c (rw k at g)
@@ -135,7 +128,7 @@ module _ (all : List DataEntry) (old : List ℕ) where
       (take-nil (room - w)) s in
       let a : take (4 * w) cur ≡ dataWords (take room all) = sym (append-nil (take (4 * w) cur)) ∙ f .written in
       let l : 4 * w ≡ 4 * length (take room all)
-      = sym (length-take-le (4 * w) cur (omega (arith, f .room))) ∙ (ap length a ∙ length-data (take room all)) in
+      = sym (length-take-le (4 * w) cur (omega (arith, f .room))) ∙ (ap length a ∙ length-data-words (take room all)) in
       record { count-is = omega (arith, l); words = filled-done (dataWords (take room all)) old cur (4 * w) f }
 
 -- one entry of a part of the journal: a member's data, or nothing

@@ -10,11 +10,11 @@ use lib.Dec.{ltb}
 use lib.ListN.{length, take, drop, replicate}
 use lib.Seq.{take-length, length-take-le}
 use Rattle.reading.specs.declared.Marker.{Marker}
-use Rattle.reading.specs.Lists.{keep, over}
+use Rattle.reading.specs.Lists.{over}
 use Rattle.reading.specs.Records.{values, markerFrom, markerList, journalWords, dataWords}
 use Rattle.reading.specs.Call.{Call, ruleCount}
 use Rattle.reading.specs.Refusals.{refusalOf, refused1, refused2}
-use Rattle.reading.specs.Walk.{Visit, walkOf, journalOf, dataOf}
+use Rattle.reading.specs.Walk.{Visit, journalOf, dataOf}
 use Rattle.reading.specs.Outcome.{Outcome, visitsOf, outcomeOf, atFreeEnd, transactionAfter}
 use Rattle.reading.specs.Demand3.{Demand3}
 use Rattle.theorems.specs.Demands.{demand3}
@@ -23,6 +23,7 @@ use Rattle.markers.specs.Unpacked.{markerWords, wordsOf}
 use Rattle.phase.specs.declared.Transaction.{Transaction}
 use Rattle.phase.specs.declared.Phase.{Phase}
 use Rattle.phase.specs.Phase.{Ran, outcomeFound, callOf}
+use Rattle.phase.proofs.Promise.{refused-visits}
 use Rattle.words.specs.Lent.{callLent, lentWords}
 
 -- THE NUMBERS OF MARKERS
@@ -124,13 +125,9 @@ unvisited q n = record {
   transaction = transactionAfter q [];
 }
 
-no-visits : (q : Call) → (refusalOf q ≡ 0 → ⊥) → visitsOf q ≡ []
-unfolding visitsOf
-no-visits q h = ap (λ (b : Bool). keep b (walkOf q)) (ne-eqb (refusalOf q) 0 h)
-
 refused-outcome : (q : Call) → (refusalOf q ≡ 0 → ⊥) → outcomeOf q ≡ unvisited q (refusalOf q)
 unfolding outcomeOf unvisited
-refused-outcome q h = rw (ne-eqb (refusalOf q) 0 h, no-visits q h)
+refused-outcome q h = rw (ne-eqb (refusalOf q) 0 h, refused-visits q h)
 
 -- the same call with other markers
 abbrev withMarkers : Call → List Marker → Call
@@ -196,10 +193,10 @@ module _ (q : Call) (t : Transaction) (entries journal : List ℕ) (r : Phase) (
       away′ e = away (number ∙ e)
 
       none : visitsOf q ≡ []
-      none = no-visits q away
+      none = refused-visits q away
 
       none′ : visitsOf q′ ≡ []
-      none′ = no-visits q′ away′
+      none′ = refused-visits q′ away′
 
       same : outcomeOf q ≡ outcomeOf q′
       same = refused-outcome q away ∙ ap (unvisited q) number ∙ sym (refused-outcome q′ away′)

@@ -4,6 +4,7 @@ use mathlib.Core.Path.{_≡_, sym, _∙_}
 use mathlib.Core.Bool.{Bool}
 use denote.Ref.{now}
 use lib.ListN.{take}
+use Rattle.reading.specs.Controls.{mostRanges, mostTargets}
 use Rattle.reading.specs.Records.{ruleList}
 use Rattle.limits.specs.Weights.{rangesCoded, targetsCoded, addsBeyond}
 use Rattle.limits.proofs.limit_refusal.Statement.{statement}
@@ -11,10 +12,10 @@ use Rattle.limits.proofs.limit_refusal.Tie as tie
 
 -- what the contract asks
 abbrev ranges : tie.Start → Bool
-ranges s = addsBeyond rangesCoded 256 (s .args .ranges) (ruleList (now (s .args .rules))) (take 4096 (now (s .args .codes)))
+ranges s = addsBeyond rangesCoded mostRanges (s .args .ranges) (ruleList (now (s .args .rules))) (take 4096 (now (s .args .codes)))
 
 abbrev targets : tie.Start → Bool
-targets s = addsBeyond targetsCoded 64 (s .args .targets) (ruleList (now (s .args .rules))) (take 4096 (now (s .args .codes)))
+targets s = addsBeyond targetsCoded mostTargets (s .args .targets) (ruleList (now (s .args .rules))) (take 4096 (now (s .args .codes)))
 
 eight : (c : tie.After-exceeds) → ranges (c .before .before .before) ≡ c .exceeds .result
 eight c = sym (c .exceeds .ensures)
