@@ -9,15 +9,12 @@ use lib.Dec.{ltb}
 use lib.ListN.{length, drop, getD, drop-of-length-le}
 use lib.Seq.{drop-cons}
 use Rattle.reading.specs.Lists.{any}
+use Rattle.lists.proofs.Tests.{or-false-is}
 
 -- the largest of the bytes before i is m, and v is the larger of m and the byte at i
 or-assoc : (a b c : Bool) → (a || (b || c)) ≡ ((a || b) || c)
 or-assoc true b c = refl
 or-assoc false b c = refl
-
-or-none : (a : Bool) → (a || false) ≡ a
-or-none true = refl
-or-none false = refl
 
 above-larger : (k m x v : ℕ) → v ≡ cond (ltb m x) x m → (ltb k m || ltb k x) ≡ ltb k v
 above-larger k m x v e = rw e (go (ltb m x) (ltb k m) refl refl)
@@ -37,7 +34,7 @@ module _ (k : ℕ) (s : List ℕ) (i m : ℕ) where
       ∙ ap (λ (t : Bool). t || any (ltb k) (drop (suc i) s)) (above-larger k m (getD s i 0) v e))
 
   pub above-end : length s ≤ i → (ltb k m || any (ltb k) (drop i s)) ≡ ltb k m
-  above-end h = ap (λ (l : List ℕ). ltb k m || any (ltb k) l) (drop-of-length-le s h) ∙ or-none (ltb k m)
+  above-end h = ap (λ (l : List ℕ). ltb k m || any (ltb k) l) (drop-of-length-le s h) ∙ or-false-is (ltb k m)
 
 -- nothing is above 0
 pub above-start : (k : ℕ) (s : List ℕ) → any (ltb k) s ≡ (ltb k 0 || any (ltb k) s)

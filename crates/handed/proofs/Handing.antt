@@ -16,7 +16,7 @@ use Rattle.reading.specs.Refusals.{refused1, refused2, refused3, refused4, refu
 use Rattle.reading.specs.Walk.{Visit}
 use Rattle.reading.specs.Outcome.{Outcome, visitsOf, outcomeOf, transactionAfter}
 use Rattle.lists.proofs.RecordLaws.{length-markers}
-use Rattle.theorems.specs.Demands.{or-false-is}
+use Rattle.lists.proofs.Tests.{or-false-is}
 use Rattle.control.specs.Held.{Became}
 use Rattle.control_laws.proofs.Determined.{SameSizes, determined}
 use Rattle.control.proofs.HeldLaws.{ranges-length, targets-length}

@@ -13,6 +13,7 @@ use Rattle.reading.specs.declared.Place.{Place}
 use Rattle.reading.specs.declared.OptionPlace.{OptionPlace}
 use Rattle.reading.specs.Lists.{any}
 use Rattle.reading.specs.Controls.{pairList, targetList, placeAt}
+use Rattle.lists.proofs.Tests.{any-append}
 
 -- an entry of the two lists
 abbrev pub rangeOf : ℕ → ℕ → RuleIdRange
@@ -20,14 +21,6 @@ rangeOf start end = record { start = start; end = end }
 
 abbrev pub placeOf : ℕ → ℕ → Place
 placeOf phase position = record { phase = phase; position = position }
-
-any-append : {A : Type 0} (test : A → Bool) (xs ys : List A) → any test (xs ++ ys) ≡ (any test xs || any test ys)
-any-append test [] ys = refl
-any-append test (x ∷ xs) ys = go (test x) (any-append test xs ys)
-  where
-    go : (b : Bool) → any test (xs ++ ys) ≡ (any test xs || any test ys) → (b || any test (xs ++ ys)) ≡ (b || any test xs || any test ys)
-    go true h = refl
-    go false h = h
 
 module _ {A : Type 0} (make : ℕ → ℕ → A) (xs ys : List ℕ) where
   pub length-pairs : (n : ℕ) → length (pairList make n xs ys) ≡ n

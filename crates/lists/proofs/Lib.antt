@@ -1,3 +1,4 @@
 pub mod Slices
+pub mod Tests
 pub mod Filled
 pub mod RecordLaws

@@ -1,11 +1,10 @@
 -- Names that are the same byte for byte or not, and one step of the search for the latest marker. Assumes nothing.
 use Prim.Native.Nat.{ℕ, suc, _+_, _-_, _*_, _/_, _≤_, _<_}
-use mathlib.Core.Path.{_≡_, refl, ap, _∙_}
-use mathlib.Core.Bool.{Bool, true, false, cond, and-false}
+use mathlib.Core.Path.{_≡_, refl, _∙_}
+use mathlib.Core.Bool.{Bool, true, false, cond}
 use mathlib.Core.List.{List, [], _∷_, _++_}
 use borrow.Author.Tests.{eq-eqb, ne-eqb}
 use native.Mathlib.Omega.{arith}
-use lib.Dec.{eqb}
 use lib.ListN.{length, getD, take, drop, drop-of-length-le}
 use lib.Seq.{drop-cons, take-suc, take-all}
 use Rattle.reading.specs.declared.Marker.{Marker}
@@ -14,13 +13,6 @@ use Rattle.reading.specs.Text.{same, partOf}
 use Rattle.reading.specs.Records.{markerFrom, markerList}
 use Rattle.reading.specs.Markers.{later, markerPosition}
 use Rattle.lists.proofs.RecordLaws.{length-markers, marker-is}
-
-pub other-length : (a b : List ℕ) → (length a ≡ length b → ⊥) → same a b ≡ false
-unfolding same
-other-length [] [] n = absurd (n refl)
-other-length [] (y ∷ ys) n = refl
-other-length (x ∷ xs) [] n = refl
-other-length (x ∷ xs) (y ∷ ys) n = rw (other-length xs ys (λ e. n (ap suc e))) (and-false (eqb x y))
 
 -- two names of one length, looked through from an index on
 module _ (a b : List ℕ) (j : ℕ) (l : length a ≡ length b) where

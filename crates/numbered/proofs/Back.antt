@@ -2,8 +2,9 @@
 use mathlib.Core.Path.{_≡_}
 use mathlib.Core.Bool.{true, _&&_}
 use lib.Dec.{leb}
+use Rattle.lists.proofs.Tests.{and-true}
 use Rattle.control.specs.declared.Controls.{Controls}
-use Rattle.numbers.proofs.Back.{mode-back, access-back, processor-back, settings-known, both, mode-forth, access-forth, processor-forth}
+use Rattle.numbers.proofs.Back.{mode-back, access-back, processor-back, settings-known, mode-forth, access-forth, processor-forth}
 use Rattle.numbered.specs.declared.HostControls.{HostControls}
 use Rattle.numbered.specs.Controls.{controlsFromHost, controlsToHost, knownControls}
 
@@ -31,8 +32,8 @@ controls-known c = settings-known (c .settings .mode) (c .settings .access) (c .
 pub controls-forth : (c : HostControls) → knownControls c ≡ true → controlsToHost (controlsFromHost c) ≡ c
 unfolding controlsToHost controlsFromHost knownControls
 controls-forth c k =
-    let m = both (leb (c .mode) 3 && leb (c .access) 2) (leb (c .processor) 4) k in
-    let a = both (leb (c .mode) 3) (leb (c .access) 2) (m .0) in
+    let m = and-true (leb (c .mode) 3 && leb (c .access) 2) (leb (c .processor) 4) k in
+    let a = and-true (leb (c .mode) 3) (leb (c .access) 2) (m .0) in
     λ i. record {
       mode = mode-forth (c .mode) (a .0) i;
       access = access-forth (c .access) (a .1) i;

@@ -2,7 +2,7 @@
 -- Assumes nothing.
 use Prim.Native.Nat.{ℕ, zero, suc}
 use mathlib.Core.Path.{_≡_, refl}
-use mathlib.Core.Bool.{Bool, true, false, _&&_}
+use mathlib.Core.Bool.{Bool, true, false}
 use native.Mathlib.Omega.{arith}
 use borrow.Author.Tests.{leb-true}
 use lib.Dec.{leb}
@@ -83,11 +83,6 @@ place-known OptionPlace.None = refl
 place-known (OptionPlace.Some at) = refl
 
 -- A known number stands for itself: read and written back, it is as it was.
-pub both : (a b : Bool) → (a && b) ≡ true → (a ≡ true) × (b ≡ true)
-both true true e = (refl, refl)
-both true false e = (refl, e)
-both false b e = (e, let z : _≡_ {A = Bool} false true = e in cc)
-
 pub mode-forth : (n : ℕ) → leb n 3 ≡ true → modeSettingNumber (modeSetting n) ≡ n
 mode-forth zero e = refl
 mode-forth (suc zero) e = refl

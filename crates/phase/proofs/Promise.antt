@@ -18,9 +18,10 @@ use Rattle.reading.specs.Refusals.{refusalOf, refused1, refused2, refused3, ref
 use Rattle.reading.specs.Refusals.{refused6, refused7, refused8, refused9}
 use Rattle.reading.specs.Outcome.{visitsOf, outcomeOf, atFreeEnd, ifNone}
 use Rattle.reading.specs.Demand3.{Demand3}
+use Rattle.lists.proofs.Tests.{or-false}
 use Rattle.theorems.specs.Demands.{AsLent, demand3, refused-as-lent, idle-as-lent}
 use Rattle.theorems.specs.Demands.{none-held, or-none, refused-answer, idle-answer, accepted-answer}
-use Rattle.theorems.specs.Limits.{Passed, passed, next-one, Free, not-seventh, or-false, Within, accepted-within}
+use Rattle.theorems.specs.Limits.{Passed, passed, next-one, Free, not-seventh, Within, accepted-within}
 use Rattle.theorems.specs.Limits.{accepted-visits, ids-within, data-within, visits-within, length-journal}
 use Rattle.lists.proofs.RecordLaws.{length-records}
 use Rattle.members.proofs.WordLaws.{journal-over, data-free-end}

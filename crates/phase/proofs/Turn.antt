@@ -28,8 +28,8 @@ use Rattle.reading.specs.Call.{Call, ruleCount, modeUnder, isLink}
 use Rattle.reading.specs.Units.{unitIds, unitData, unitControls, unitFlow, unitDisruptive, unitIntervention}
 use Rattle.reading.specs.Walk.{Visit, isLast, entryOf, journalOf, idsOf, dataOf, controlsAfter, walk, verdictAt, visitAt}
 use Rattle.reading.specs.Walk.{afterFlow}
-use Rattle.theorems.specs.Limits.{or-false, length-journal}
-use Rattle.theorems.specs.Demands.{or-false-is}
+use Rattle.lists.proofs.Tests.{or-false, or-false-is}
+use Rattle.theorems.specs.Limits.{length-journal}
 use Rattle.theorems.specs.Rising.{goes-ahead}
 use Rattle.control.specs.declared.Controls.{Controls}
 use Rattle.control.specs.Held.{controlsOf, Became}

@@ -1,10 +1,11 @@
 -- What is written to a host's record is read back as it was, and each of its numbers is known. Assumes nothing.
 use mathlib.Core.Path.{_≡_}
 use mathlib.Core.Bool.{true, _&&_}
+use Rattle.lists.proofs.Tests.{and-true}
 use Rattle.phase.specs.declared.Transaction.{Transaction}
 use Rattle.numbers.specs.Parts.{flagNumber, flagKnown}
 use Rattle.numbered.specs.Controls.{controlsToHost, knownControls}
-use Rattle.numbers.proofs.Back.{flag-back, flag-known, both, flag-forth}
+use Rattle.numbers.proofs.Back.{flag-back, flag-known, flag-forth}
 use Rattle.numbered.proofs.Back.{controls-back, controls-known, controls-forth}
 use Rattle.stops.specs.Parts.{interventionKnown}
 use Rattle.stops.proofs.Back.{intervention-back, intervention-known}
@@ -36,8 +37,8 @@ pub forth : (h : HostTransaction) → known h ≡ true
     } ≡ h
 unfolding fromHost known
 forth h k =
-    let m = both (flagKnown (h .allowed) && knownControls (h .controls)) (interventionKnown (h .intervention)) k in
-    let a = both (flagKnown (h .allowed)) (knownControls (h .controls)) (m .0) in
+    let m = and-true (flagKnown (h .allowed) && knownControls (h .controls)) (interventionKnown (h .intervention)) k in
+    let a = and-true (flagKnown (h .allowed)) (knownControls (h .controls)) (m .0) in
     λ i. record {
       controls = controls-forth (h .controls) (a .1) i;
       allowed = flag-forth (h .allowed) (a .0) i;

@@ -15,7 +15,7 @@ unfolding fold
 fold-length [] = refl
 fold-length (x ∷ xs) = ap suc (fold-length xs)
 
-same-lengths : (a b : List ℕ) → (length a ≡ length b → ⊥) → same a b ≡ false
+pub same-lengths : (a b : List ℕ) → (length a ≡ length b → ⊥) → same a b ≡ false
 unfolding same
 same-lengths [] [] n = absurd (n refl)
 same-lengths [] (y ∷ ys) n = refl

@@ -21,6 +21,7 @@ use Rattle.reading.specs.Replay.{heldAfter, unitsOf, lastClosedFrom, lastClosed
 use Rattle.reading.specs.Refusals.{refusalOf, refused1, refused2, refused3, refused4, refused5, refused6, refused7, refused8, refused9}
 use Rattle.reading.specs.Outcome.{Outcome, visitsOf, outcomeOf, atFreeEnd, ifNone, transactionAfter}
 use Rattle.reading.specs.Demand3.{Demand3, StoppedBy, foundJournal}
+use Rattle.lists.proofs.Tests.{or-false-is}
 use Rattle.theorems.specs.Replayed.{Replayed, walk-replayed}
 use Rattle.theorems.specs.Rising.{indexes-rise}
 use Rattle.theorems.specs.Limits.{accepted-visits, length-journal}
@@ -200,10 +201,6 @@ pub record AsLent (q : Call) (o : Outcome) : Type 0 where
   pub ids : o .ids ≡ q .ids
   pub data-entries : o .data-entries ≡ q .data-entries
   pub transaction : o .transaction ≡ q .transaction
-
-pub or-false-is : (b : Bool) → (b || false) ≡ b
-or-false-is true = refl
-or-false-is false = refl
 
 drop-none : {A : Type 0} (l : List A) → drop 0 l ≡ l
 drop-none [] = refl

@@ -23,6 +23,7 @@ use Rattle.reading.specs.Walk.{State, Visit, isLast, visitBy, visitAt, verdictA
 use Rattle.reading.specs.Replay.{unitsControls}
 use Rattle.reading.specs.Refusals.{refusalOf, refused1, refused2, refused3, refused4, refused5, refused6, refused7, refused8, refused9, ruleTotal}
 use Rattle.reading.specs.Outcome.{visitsOf, outcomeOf, atFreeEnd}
+use Rattle.lists.proofs.Tests.{or-false}
 use Rattle.theorems.specs.Replayed.{walk-replayed}
 use Rattle.theorems.specs.Rising.{goes-ahead, visited-within}
 
@@ -310,10 +311,6 @@ passed q e =
       eighth = p8 .0;
       ninth = p9 .0;
     }
-
-pub or-false : (a b : Bool) → (a || b) ≡ false → (a ≡ false) × (b ≡ false)
-or-false true b e = absurd (let y : _≡_ {A = ℕ} 0 1 = cc in omega arith)
-or-false false b e = (refl, e)
 
 -- an accepted call's visits are the walk
 pub accepted-visits : (q : Call) → refusalOf q ≡ 0 → visitsOf q ≡ walkOf q

@@ -14,6 +14,7 @@ use Rattle.reading.specs.Call.{Call, isLink, modeUnder, ruleCount}
 use Rattle.reading.specs.Units.{unitControls, unitDisruptive, unitIntervention, isAllow, isStopping}
 use Rattle.reading.specs.Walk.{State, Visit, Ending, goesOn, allows, errs, stops, isLast, givesAllow, interventionOr, visitBy, visitAt, verdictAt, isVisited, walk, walkOf, start, nothingToDo, entryOf, journalOf, closedIn, controlsAfter, allowedBy, interventionBy}
 use Rattle.reading.specs.Replay.{heldAfter, closedBy, unitsFrom, lastClosedFrom, unitsControls, unitAllows, stopOf}
+use Rattle.lists.proofs.Tests.{any-append}
 
 -- ONE VISIT, by what the rule is found to be and by whether it is a link
 
@@ -104,14 +105,6 @@ not-last (stops i) other h = absurd (bool-absurd h)
     bool-absurd p = let z : _≡_ {A = ℕ} 0 1 = cc in omega arith
 
 -- SEVERAL VISITS
-
-any-append : {A : Type 0} (test : A → Bool) (xs ys : List A) → any test (xs ++ ys) ≡ (any test xs || any test ys)
-any-append test [] ys = refl
-any-append test (x ∷ xs) ys = by (test x) (any-append test xs ys)
-  where
-    by : (b : Bool) → any test (xs ++ ys) ≡ (any test xs || any test ys) → (b || any test (xs ++ ys)) ≡ (b || any test xs || any test ys)
-    by true h = refl
-    by false h = h
 
 controls-append : (q : Call) (us vs : List (List ℕ)) (c : Controls) → unitsControls q (us ++ vs) c ≡ unitsControls q vs (unitsControls q us c)
 controls-append q [] vs c = refl

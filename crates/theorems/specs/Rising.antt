@@ -20,13 +20,9 @@ use Rattle.reading.specs.Call.{Call, ruleCount, isLink, modeUnder}
 use Rattle.reading.specs.Units.{unitFlow}
 use Rattle.reading.specs.Demand3.{Rises}
 use Rattle.reading.specs.Walk.{State, Visit, isLast, chainRest, afterChain, jumpFrom, markerName, afterFlow, visitBy, visitAt, verdictAt, isVisited, walk, walkOf, start, nothingToDo, journalOf}
+use Rattle.lists.proofs.Tests.{and-true}
 
 -- a conjunction that is true, by its parts
-pub and-true : (a b : Bool) → (a && b) ≡ true → (a ≡ true) × (b ≡ true)
-and-true true true e = (refl, refl)
-and-true true false e = let z : _≡_ {A = Bool} false true = e in absurd (let y : _≡_ {A = ℕ} 0 1 = cc in omega arith)
-and-true false b e = absurd (let y : _≡_ {A = ℕ} 0 1 = cc in omega arith)
-
 -- a chain has at least the rule that it is asked from
 rest-positive : (rs : List Rule) (i : ℕ) → i < length rs → 0 < chainRest (drop i rs)
 rest-positive (r ∷ rs) zero h = by (eqb (r .link) 1)

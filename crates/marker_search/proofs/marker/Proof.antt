@@ -9,7 +9,8 @@ use lib.ListN.{length, drop}
 use Rattle.reading.specs.Text.{same}
 use Rattle.reading.specs.Records.{markerList}
 use Rattle.reading.specs.Markers.{markerPosition}
-use Rattle.marker_search.proofs.MarkerLaws.{other-length, same-byte, other-byte, same-end}
+use Rattle.text.proofs.Spelling.{same-lengths}
+use Rattle.marker_search.proofs.MarkerLaws.{same-byte, other-byte, same-end}
 use Rattle.marker_search.proofs.MarkerLaws.{positionIn, position-all, position-none, position-other, position-found}
 use Rattle.marker_search.proofs.marker.Statement.{statement}
 use Rattle.marker_search.proofs.marker.Tie as tie
@@ -122,7 +123,7 @@ search-again-2 c =
     let at = c .before .before .before .before .before in (
       omega arith,
       at .search .inv .1
-          ∙ position-other _ _ _ (at .search .k) (omega arith) (omega arith) _ (other .ensures) (other-length _ _ (c .if2 .left)),
+          ∙ position-other _ _ _ (at .search .k) (omega arith) (omega arith) _ (other .ensures) (same-lengths _ _ (c .if2 .left)),
     )
 
 returns : tie.Need-returns Inv-name μ-name Inv-search μ-search
