@@ -1,6 +1,15 @@
-"""The must-fail edits of a crate, read: what edit-errors and edits-by-fact share."""
+"""The must-fail edits of a crate, read: what edit-errors, edits-by-fact, code-tables and counts share."""
 import os
 import re
+from typing import NamedTuple
+
+
+class Wrong(NamedTuple):
+    """A wrong program, contract or definition."""
+    name: str
+    table: str  # that its line `# table: NAME` names, or None
+    pairs: list  # of texts, as (file, old, new)
+    says: str  # its comment without the name
 
 
 def read(path):
@@ -9,28 +18,35 @@ def read(path):
 
 
 def programs(edit):
-    """Each wrong program, contract or definition of an edit: its name, the table that its line `# table: NAME` names, or None, and
-    its pairs of texts as (file, old, new). They stand apart by an empty line, each under a comment `# name: what it does`; with one
-    alone the name is the file's."""
+    """Each wrong program, contract or definition of an edit. They stand apart by an empty line, each under a comment
+    `# name: what it does`; with one alone the name is the file's."""
+    own = os.path.basename(edit)[:-5]
     parts = [part for part in re.split(r"\n\n+", read(edit).strip("\n")) if part]
     for part in parts:
-        named = re.match(r"# (\w+): ", part)
         table = re.search(r"^# table: (\S+)$", part, re.M)
-        path = old = None
-        pairs = []
-        for line in part.split("\n"):
-            if line.startswith("file: "):
-                path = line[6:]
-            elif line.startswith("old: "):
-                old = line[5:]
-            elif line.startswith("new:"):
-                new = line[4:].removeprefix(" ")
-                if new == old:
-                    raise SystemExit(f"{edit}: changes nothing: {old}")
-                pairs.append((path, old, new))
-            elif not line.startswith("#"):
-                raise SystemExit(f"{edit}: neither a comment nor file:, old: or new:, {line}")
-        yield os.path.basename(edit)[:-5] if len(parts) == 1 else named.group(1), table and table.group(1), pairs
+        says = " ".join(line[1:].strip() for line in part.split("\n") if line.startswith("#") and not line.startswith("# table: "))
+        named = re.match(r"(\w+): ", says)
+        if len(parts) > 1 and not named:
+            raise SystemExit(f"{edit}: a wrong program without a name: {says}")
+        name = named.group(1) if len(parts) > 1 else own
+        yield Wrong(name, table and table.group(1), list(pairs_of(edit, part)), says.removeprefix(name + ": "))
+
+
+def pairs_of(edit, part):
+    """The pairs of texts of one part, as (file, old, new)."""
+    path = old = None
+    for line in part.split("\n"):
+        if line.startswith("file: "):
+            path = line[6:]
+        elif line.startswith("old: "):
+            old = line[5:]
+        elif line.startswith("new:"):
+            new = line[4:].removeprefix(" ")
+            if new == old:
+                raise SystemExit(f"{edit}: changes nothing: {old}")
+            yield path, old, new
+        elif not line.startswith("#"):
+            raise SystemExit(f"{edit}: neither a comment nor file:, old: or new:, {line}")
 
 
 def put(text, old, new, where):
@@ -39,3 +55,17 @@ def put(text, old, new, where):
         raise SystemExit(f"{where}: {text.count(old)} times there: {old}")
     place = text.index(old)
     return text[:place] + new + text[place + len(old):], place
+
+
+def applied(edit):
+    """Each wrong program of an edit with what it changes, as (file, the file's text before, the place in it). The later ones are
+    put into what the earlier ones leave, as `rt` does it."""
+    crate = os.path.dirname(os.path.dirname(edit))
+    files = {}
+    for one in programs(edit):
+        places = []
+        for path, old, new in one.pairs:
+            text = files[path] if path in files else read(os.path.join(crate, path))
+            files[path], place = put(text, old, new, f"{os.path.relpath(edit, os.path.dirname(os.path.dirname(crate)))}: {one.name}: {path}")
+            places.append((path, text, place))
+        yield one, places
