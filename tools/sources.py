@@ -100,3 +100,13 @@ def leading_comment(text):
             break
         lines.append(line[2:].removeprefix("/").removeprefix("!").removeprefix(" "))
     return "\n".join(lines).strip()
+
+
+def kind_of(crate, places):
+    """What a wrong program with these places is: a `program`, which changes code; a `contract`, which changes what is claimed of
+    code, in a function's `ensures` or `requires` or in the specs that contracts are stated with; or a `definition` of crate reading,
+    whose specs are the definitions that a reader must believe."""
+    if all(path.startswith("specs/") for path, _, _ in places):
+        return "definition" if crate == "reading" else "contract"
+    changed = [(f, place) for path, text, place in places if path.endswith(".rt") for f in functions(text) if f.start <= place <= f.end]
+    return "contract" if changed and all(place < f.body for f, place in changed) else "program"
