@@ -9,8 +9,8 @@
 
 use crate::raw::{Lent, Lists};
 use crate::records::{
-    Action, DataRecord, HostAnswer, HostAsked, HostChanged, HostControls, HostNumber, HostTarget,
-    HostTransaction, JournalRecord, Marker, ReadRecord, Rule,
+    Action, DataRecord, HostAnswer, HostAsked, HostChanged, HostControls, HostMarker, HostNumber,
+    HostTarget, HostTransaction, JournalRecord, Marker, ReadRecord, Rule,
 };
 use crate::Outcome;
 
@@ -57,6 +57,16 @@ extern "C" {
     fn tivembo_request_body_processor(controls: HostControls) -> HostAsked;
     fn tivembo_remove_range(controls: HostControls, start: u64, end: u64) -> HostChanged;
     fn tivembo_remove_target(controls: HostControls, phase: u64, position: u64) -> HostChanged;
+
+    fn tivembo_marker_position(
+        markers: *const Marker,
+        markers_len: usize,
+        rules: u64,
+        text: *const u8,
+        text_len: usize,
+        name: *const u8,
+        name_len: usize,
+    ) -> HostMarker;
 }
 
 /// A phase call on whatever is lent.
@@ -111,6 +121,22 @@ pub fn read_directive(
             starts.len(),
             ends.as_mut_ptr(),
             ends.len(),
+        )
+    }
+}
+
+/// Where the latest marker of a name leads, of a phase with so many rules. The markers' names are parts of the text.
+pub fn marker_position(markers: &[Marker], rules: u64, text: &[u8], name: &[u8]) -> HostMarker {
+    // SAFETY: the contract has no `requires`. Each pointer and length is a slice that is lent for the whole call.
+    unsafe {
+        tivembo_marker_position(
+            markers.as_ptr(),
+            markers.len(),
+            rules,
+            text.as_ptr(),
+            text.len(),
+            name.as_ptr(),
+            name.len(),
         )
     }
 }

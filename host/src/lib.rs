@@ -73,8 +73,8 @@ pub use limits::{Broken, Limit, Where};
 pub use phase::{Answer, Phase};
 pub use records::{
     Action, DataRecord, HostAnswer, HostAsked, HostChanged, HostControls, HostIntervention,
-    HostMetadata, HostNumber, HostPlace, HostTarget, HostTransaction, JournalRecord, Marker, Part,
-    Rule, MOST_RANGES, MOST_TARGETS,
+    HostMarker, HostMetadata, HostNumber, HostPlace, HostTarget, HostTransaction, JournalRecord,
+    Marker, Part, Rule, MOST_RANGES, MOST_TARGETS,
 };
 pub use refusal::Refusal;
 pub use ruleset::{Builder, Records, RuleSet};

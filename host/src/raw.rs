@@ -7,8 +7,9 @@ use crate::exported;
 use crate::records::{HostAnswer, HostTransaction, Marker};
 
 pub use crate::exported::{
-    engine_mode, is_rule_removed, outcome_bytes, read_directive, remove_range, remove_target,
-    request_body_access, request_body_processor, target_at, target_count, words, words_mut, Words,
+    engine_mode, is_rule_removed, marker_position, outcome_bytes, read_directive, remove_range,
+    remove_target, request_body_access, request_body_processor, target_at, target_count, words,
+    words_mut, Words,
 };
 pub use crate::records::ReadRecord;
 

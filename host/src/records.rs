@@ -258,6 +258,18 @@ pub struct HostTarget {
     pub target: HostPlace,
 }
 
+/// What the question for a marker answers.
+#[repr(C)]
+#[derive(Debug, Clone, Copy, Default, PartialEq, Eq)]
+pub struct HostMarker {
+    /// 0 or a refusal's number.
+    pub answer: u64,
+    /// 1 where there is a marker of the name, else 0.
+    pub present: u64,
+    /// The position of the latest such marker, else 0.
+    pub position: u64,
+}
+
 /// What an addition to the controls answers, and the controls after it.
 #[repr(C)]
 #[derive(Debug, Clone, Copy, Default, PartialEq, Eq)]

@@ -2,9 +2,10 @@
 
 use std::collections::HashMap;
 
+use crate::exported;
 use crate::limits::Broken;
-use crate::records::{Action, Marker, Part, Rule};
-use crate::Act;
+use crate::records::{Action, HostNumber, Marker, Part, Rule};
+use crate::{Act, Refusal};
 
 /// The rules of one phase, with their actions, markers and texts. It is made once, with a [`Builder`], and lent to every
 /// call of that phase.
@@ -47,6 +48,29 @@ impl RuleSet {
             text: &self.text,
         }
     }
+
+    /// Where a `skipAfter` of this name leads: the number of rules before the latest marker of the name, or none where no
+    /// marker has it. Names compare byte for byte.
+    ///
+    /// ```
+    /// use tivembo::{Act, RuleSet};
+    ///
+    /// let mut rules = RuleSet::builder();
+    /// rules.rule(Some(30), false, &[Act::Id(30), Act::SkipAfter(b"END")]);
+    /// rules.rule(Some(31), false, &[Act::Id(31), Act::Deny]);
+    /// rules.marker(b"END");
+    /// let rules = rules.build()?;
+    /// assert_eq!(rules.marker_position(b"END")?, Some(2));
+    /// assert_eq!(rules.marker_position(b"end")?, None);
+    /// # Ok::<(), Box<dyn std::error::Error>>(())
+    /// ```
+    ///
+    /// # Errors
+    ///
+    /// A rule set that [`Builder::build`] made is never refused. Of others, [`Records::marker_position`] says which are.
+    pub fn marker_position(&self, name: &[u8]) -> Result<Option<u64>, Refusal> {
+        self.records().marker_position(name)
+    }
 }
 
 /// The records of a rule set, lent: they go over to a call without a copy. A gateway that keeps records itself lends
@@ -74,6 +98,22 @@ impl<'a> Records<'a> {
     pub fn actions_of(&self, rule: &Rule) -> impl Iterator<Item = Act<'a>> + '_ {
         let positions = rule.first..rule.first.saturating_add(rule.count);
         positions.map_while(|position| self.action(position))
+    }
+
+    /// Where a `skipAfter` of this name leads, as [`RuleSet::marker_position`] says. This is the proved question.
+    ///
+    /// # Errors
+    ///
+    /// There are more than 512 rules, 256 markers or 65,536 bytes of text (2), a marker's name is not inside the text or its
+    /// position is above the number of rules (5), or the text has a byte of 80 (hexadecimal) or more (6).
+    pub fn marker_position(&self, name: &[u8]) -> Result<Option<u64>, Refusal> {
+        let rules = self.rules.len() as u64;
+        let found = exported::marker_position(self.markers, rules, self.text, name);
+        let position = HostNumber {
+            present: found.present,
+            value: found.position,
+        };
+        Refusal::unless(found.answer, position.get())
     }
 }
 

@@ -2,5 +2,6 @@
 pub mod PlacedLaws
 pub mod SlotLaws
 pub mod MarkLaws
+pub mod NumberLaws
 pub mod ControlLaws
 pub mod Sofar

@@ -9,7 +9,8 @@ use lib.ListN.{length, getD, set, replicate, length-append, length-map}
 use Rattle.reading.specs.declared.Action.{Action}
 use Rattle.reading.specs.Lists.{keep}
 use Rattle.reading.specs.declared.Rule.{Rule}
-use Rattle.reading.specs.Actions.{Placed, actionsOf, kindOf, disruptiveBy, flowBy, controlsIn}
+use Rattle.reading.specs.Numbers.{disruptiveKind, disruptiveValue, flowKind, flowValue}
+use Rattle.reading.specs.Actions.{Placed, actionsOf, kindOf, disruptiveBy, lastDisruptive, flowBy, lastFlow, controlsIn}
 use Rattle.reading.specs.Records.{actionList}
 use Rattle.actions.specs.declared.RuleActions.{RuleActions}
 use Rattle.actions.specs.Executed.{positionsOf, Executed}
@@ -17,6 +18,7 @@ use Rattle.actions.specs.Slots.{slotOf, placedAt, marked, markedMetadata
 use Rattle.lists.proofs.RecordLaws.{length-actions, action-is}
 use Rattle.actions.proofs.PlacedLaws.{upTo, up-to-none, up-to-more, up-to-end, controls-more}
 use Rattle.actions.proofs.MarkLaws.{Marks, marks-none, marks-more, marks-disruptive, marks-flow, marks-metadata}
+use Rattle.actions.proofs.NumberLaws.{disruptive-kind, disruptive-value, flow-kind, flow-value}
 use Rattle.actions.proofs.ControlLaws.{fitting, length-fitting, fitting-none, fitting-more}
 
 -- after the actions `done`: the marks, the number of control actions, and the list of their positions, which was `found`
@@ -107,9 +109,16 @@ sofar-end words found rule phase i last controls r end disruptive flow metadata 
     let behind : i ≡ rule .first + min (rule .count) (length actions - rule .first) = omega (arith, length-actions words) in
     let whole : Sofar actions found (actionsOf actions rule) last controls (r .controls)
     = subst (λ (done : List Placed). Sofar actions found done last controls (r .controls)) (up-to-end actions rule i behind) so in
+    let ps = actionsOf actions rule in
+    let d : r .disruptive ≡ lastDisruptive ps = disruptive ∙ marks-disruptive actions ps last (whole .marks) in
+    let f : r .flow ≡ lastFlow ps = flow ∙ marks-flow actions ps last (whole .marks) in
     record {
-      disruptive = disruptive ∙ marks-disruptive actions (actionsOf actions rule) last (whole .marks);
-      flow = flow ∙ marks-flow actions (actionsOf actions rule) last (whole .marks);
+      disruptive-kind = ap disruptiveKind d ∙ disruptive-kind ps;
+      disruptive-value = ap disruptiveValue d ∙ disruptive-value ps;
+      flow-kind = ap flowKind f ∙ flow-kind ps;
+      flow-value = ap flowValue f ∙ flow-value ps;
+      disruptive = d;
+      flow = f;
       metadata = metadata ∙ marks-metadata actions (actionsOf actions rule) last (whole .marks) phase;
       controls = whole .count;
       positions = whole .positions;

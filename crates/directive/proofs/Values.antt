@@ -4,14 +4,13 @@ use mathlib.Core.Path.{_≡_, refl, sym, ap, _∙_}
 use mathlib.Core.Bool.{Bool, true, false, cond, _||_}
 use mathlib.Core.List.{List}
 use native.Mathlib.Omega.{arith}
-use borrow.Author.Tests.{lt-ltb, le-ltb, ltb-true, ltb-false, eq-eqb, ne-eqb}
-use lib.Dec.{ltb, eqb}
+use borrow.Author.Tests.{lt-ltb, le-ltb, eq-eqb, ne-eqb}
+use lib.Dec.{eqb}
 use lib.ListN.{length, take, drop}
 use Rattle.reading.specs.declared.CtlDirective.{CtlDirective}
-use Rattle.reading.specs.Text.{ascii, same, trim, fold, indexOf, holdsByte, cutBefore, cutBehind, idParts, anyBad, rangesIn}
-use Rattle.reading.specs.Directive.{Directive, unsupported, ruleRemoveById, ruleRemoveTargetById, engineValue, accessValue}
-use Rattle.reading.specs.Directive.{processorValue, removalValue, targetValue, directiveNamed, directiveOf, isSupported}
-use Rattle.reading.specs.Directive.{withoutLists}
+use Rattle.reading.specs.Text.{ascii, same, trim, fold, indexOf, idParts, anyBad, rangesIn}
+use Rattle.reading.specs.Directive.{unsupported, ruleRemoveById, engineValue, accessValue}
+use Rattle.reading.specs.Directive.{processorValue, removalValue, targetValue, directiveNamed, directiveOf, withoutLists}
 use Rattle.range_count.specs.declared.RangeCount.{RangeCount}
 use Rattle.range_count.specs.Count.{countIn}
 
@@ -36,50 +35,22 @@ module _ (value lent : List ℕ) where
       go false e = let q : n ≡ length (rangesIn (idParts value)) = cc in ap CtlDirective.RuleRemoveById q
 
 -- a target by the texts on the two sides of its first ";"
-module _ (value : List ℕ) (k : ℕ) (ke : k ≡ indexOf 59 value) where
-  pub target-whole : length value ≤ k → isSupported (targetValue value) ≡ false
+module _ (value lent : List ℕ) (k : ℕ) (ke : k ≡ indexOf 59 value) where
+  pub target-whole : length value ≤ k → CtlDirective.Unsupported ≡ withoutLists lent (targetValue value)
   target-whole h = simp (sym ke, le-ltb k (length value) h)
 
   module _ (h : k < length value) (id : List ℕ) (ie : id ≡ trim (take k value)) where
-    pub target-no-id : length id ≡ 0 → isSupported (targetValue value) ≡ false
+    pub target-no-id : length id ≡ 0 → CtlDirective.Unsupported ≡ withoutLists lent (targetValue value)
     target-no-id z = simp (sym ke, lt-ltb k (length value) h, sym ie, eq-eqb (length id) 0 z)
 
     module _ (n : length id ≡ 0 → ⊥) (target : List ℕ) (te : target ≡ trim (drop (suc k) value)) where
-      pub target-both : ltb 0 (length target) ≡ isSupported (targetValue value)
-      target-both = go (ltb 0 (length target)) refl
-        where
-          go : (t : Bool) → ltb 0 (length target) ≡ t → t ≡ isSupported (targetValue value)
-          go true e =
-              let m = ne-eqb (length target) 0 (λ z. omega (arith, ltb-true 0 (length target) e)) in
-              sym (simp (sym ke, lt-ltb k (length value) h, sym ie, ne-eqb (length id) 0 n, sym te, m))
-          go false e =
-              let m = eq-eqb (length target) 0 (omega (arith, ltb-false 0 (length target) e)) in
-              sym (simp (sym ke, lt-ltb k (length value) h, sym ie, ne-eqb (length id) 0 n, sym te, m))
+      pub target-no-target : length target ≡ 0 → CtlDirective.Unsupported ≡ withoutLists lent (targetValue value)
+      target-no-target z =
+          simp (sym ke, lt-ltb k (length value) h, sym ie, ne-eqb (length id) 0 n, sym te, eq-eqb (length target) 0 z)
 
-module _ (value lent : List ℕ) where
-  -- the three outcomes of a target's value
-  abbrev sides : (held none : Bool) → Directive
-  sides held none = cond held (cond none unsupported (ruleRemoveTargetById (trim (cutBefore 59 value)) (trim (cutBehind 59 value))))
-      unsupported
-
-  pub target-no : isSupported (targetValue value) ≡ false → CtlDirective.Unsupported ≡ withoutLists lent (targetValue value)
-  target-no = go (holdsByte 59 value) (eqb (length (trim (cutBefore 59 value))) 0 || eqb (length (trim (cutBehind 59 value))) 0)
-    where
-      go : (held none : Bool) → isSupported (sides held none) ≡ false → CtlDirective.Unsupported ≡ withoutLists lent
-          (sides held none)
-      go false none e = refl
-      go true true e = refl
-      go true false e = absurd (let z : _≡_ {A = ℕ} 0 1 = cc in omega arith)
-
-  pub target-yes : isSupported (targetValue value) ≡ true → CtlDirective.RuleRemoveTargetById (indexOf 59 lent) ≡ withoutLists lent
-      (targetValue value)
-  target-yes = go (holdsByte 59 value) (eqb (length (trim (cutBefore 59 value))) 0 || eqb (length (trim (cutBehind 59 value))) 0)
-    where
-      go : (held none : Bool) → isSupported (sides held none) ≡ true
-          → CtlDirective.RuleRemoveTargetById (indexOf 59 lent) ≡ withoutLists lent (sides held none)
-      go false none e = absurd (let z : _≡_ {A = ℕ} 0 1 = cc in omega arith)
-      go true true e = absurd (let z : _≡_ {A = ℕ} 0 1 = cc in omega arith)
-      go true false e = refl
+      pub target-both : (length target ≡ 0 → ⊥) → CtlDirective.RuleRemoveTargetById (indexOf 59 lent) ≡ withoutLists lent (targetValue value)
+      target-both m =
+          simp (sym ke, lt-ltb k (length value) h, sym ie, ne-eqb (length id) 0 n, sym te, ne-eqb (length target) 0 m)
 
 -- a directive by its name; n and v are the trimmed texts
 module _ (name value n v : List ℕ) (en : n ≡ trim name) (ev : v ≡ trim value) where

@@ -11,8 +11,8 @@ ghost use mathlib.Core.Path.{_≡_};
 ghost use mathlib.Core.List.{List};
 ghost use Prim.Native.Nat.{ℕ};
 ghost use Rattle.reading.specs.Text.{fold};
-ghost use Rattle.reading.specs.Directive.{engineValue, accessValue, processorValue, removalValue, targetValue, directiveOf, isSupported, withoutLists};
-ghost use Rattle.directive.specs.Settings.{engineBy, accessBy, processorBy};
+ghost use Rattle.reading.specs.Directive.{engineValue, accessValue, processorValue, removalValue, targetValue, directiveOf, withoutLists};
+ghost use Rattle.directive.specs.Settings.{engineBy, accessBy, processorBy, targetBy};
 
 // The mode that a value names.
 fn mode_named(value: &[u8]) -> ModeSetting
@@ -99,31 +99,40 @@ fn request_body_processor(value: &[u8]) -> CtlDirective
     CtlDirective::RequestBodyProcessor(processor)
 }
 
-// Whether a value is a target: something on both sides of its first ';'.
-fn is_target(value: &[u8]) -> bool
-    ensures { λ r. ⌜ r ≡ isSupported (targetValue (now (value .entry))) ⌝ }
-{
-    let cut = text::find(value, b';');
-    if value.len() <= cut {
-        return false;
-    }
-    let id = trim::trimmed(&value[..cut]);
-    if id.len() == 0 {
-        return false;
-    }
-    let from = cut + 1;
-    let target = trim::trimmed(&value[from..]);
-    0 < target.len()
+// Where the value of a target directive is cut, if it is a target.
+enum TargetCut {
+    Unsupported,
+    At(usize),
 }
 
-// The target directive of a value as lent and trimmed. Where it is cut is said of the value as lent.
+// A target has something on both sides of its first ';'. The value is given as lent and trimmed: the trimmed one is looked at, and
+// where it is cut is said of the one as lent.
+fn target_cut(value: &[u8], t: &[u8]) -> TargetCut
+    ensures { λ r. ⌜ targetBy r ≡ withoutLists (now (value .entry)) (targetValue (now (t .entry))) ⌝ }
+{
+    let cut = text::find(t, b';');
+    if t.len() <= cut {
+        return TargetCut::Unsupported;
+    }
+    let id = trim::trimmed(&t[..cut]);
+    if id.len() == 0 {
+        return TargetCut::Unsupported;
+    }
+    let from = cut + 1;
+    let target = trim::trimmed(&t[from..]);
+    if target.len() == 0 {
+        return TargetCut::Unsupported;
+    }
+    TargetCut::At(text::find(value, b';'))
+}
+
 fn rule_remove_target_by_id(value: &[u8], t: &[u8]) -> CtlDirective
     ensures { λ r. ⌜ r ≡ withoutLists (now (value .entry)) (targetValue (now (t .entry))) ⌝ }
 {
-    if is_target(t) {
-        return CtlDirective::RuleRemoveTargetById(text::find(value, b';'));
-    }
-    CtlDirective::Unsupported
+    let TargetCut::At(cut) = target_cut(value, t) else {
+        return CtlDirective::Unsupported;
+    };
+    CtlDirective::RuleRemoveTargetById(cut)
 }
 
 // What a directive says; the ranges of ruleRemoveById are counted and not written.

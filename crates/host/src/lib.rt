@@ -4,6 +4,7 @@ use added::HostChanged;
 use asked::HostAsked;
 use asked::HostTarget;
 use handed::HostAnswer;
+use marker_lookup::HostMarker;
 use numbered::HostControls;
 use numbers::HostNumber;
 use reader::DirectiveRead;
@@ -22,6 +23,7 @@ ghost use Rattle.asked.specs.Asked.{controlsIn, hostMode, hostRemoved, hostTarg
 ghost use Rattle.added.specs.Added.{HostAdded};
 ghost use Rattle.words.specs.Lent.{callLent};
 ghost use Rattle.handed.specs.Handed.{HostRan};
+ghost use Rattle.marker_lookup.specs.Lookup.{lookup};
 ghost use Rattle.host.specs.Record.{Recorded};
 
 // What the reader answers, the number of the directive's form, and its value.
@@ -181,4 +183,18 @@ pub extern "C" fn tivembo_remove_target(c: HostControls, phase: u64, position: u
     ensures { λ r. ⌜ HostAdded c r (addTargetAnswer (controlsIn c)) (withTarget (controlsIn c) (record { phase = phase; position = position })) ⌝ }
 {
     added::remove_target(c, phase, position)
+}
+
+// Where the latest marker of a name leads, asked of a phase's marker records. `rules` is how many rules the phase has.
+#[no_mangle]
+pub extern "C" fn tivembo_marker_position(
+    markers: &[Marker],
+    rules: u64,
+    text: &[u8],
+    name: &[u8],
+) -> HostMarker
+    ensures { λ r. ⌜ r ≡ lookup (now (markers .entry)) rules (now (text .entry)) (now (name .entry)) ⌝ }
+{
+    let c = markers::unpack(markers);
+    marker_lookup::look_up_unpacked(c, rules, text, name)
 }

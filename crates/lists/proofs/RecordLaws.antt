@@ -1,6 +1,6 @@
 -- Lists of so many values of a function, and the records that a list of numbers stands for. Assumes nothing.
 use Prim.Native.Nat.{ℕ, zero, suc, _/_, _≤_, _<_}
-use mathlib.Core.Path.{_≡_, refl, ap}
+use mathlib.Core.Path.{_≡_, refl, ap, _∙_}
 use mathlib.Core.List.{List, [], _∷_}
 use native.Mathlib.Omega.{arith}
 use lib.ListN.{length, getD, drop, drop-of-length-le, List·getD-eq-default}
@@ -24,6 +24,18 @@ module _ {A : Type 0} where
   drop-values f zero i h = absurd (omega arith)
   drop-values f (suc n) zero h = refl
   drop-values f (suc n) (suc i) h = drop-values (λ k. f (suc k)) n i (omega arith)
+
+  values-same : (f g : ℕ → A) (n : ℕ) → ((i : ℕ) → f i ≡ g i) → values f n ≡ values g n
+  values-same f g zero h = refl
+  values-same f g (suc n) h = ap (λ (a : A). a ∷ values (λ i. f (suc i)) n) (h zero)
+      ∙ ap (λ (l : List A). g zero ∷ l) (values-same (λ i. f (suc i)) (λ i. g (suc i)) n (λ i. h (suc i)))
+
+  -- numbers that start with one whole record: the record, and the list of the rest
+  pub records-cons : (width : ℕ) (recordAt : List ℕ → ℕ → A) (words rest : List ℕ) → length words / width ≡ suc (length rest / width)
+      → ((i : ℕ) → recordAt words (suc i) ≡ recordAt rest i)
+      → recordList width recordAt words ≡ recordAt words 0 ∷ recordList width recordAt rest
+  records-cons width recordAt words rest n h = rw n (ap (λ (l : List A). recordAt words 0 ∷ l)
+      (values-same (λ i. recordAt words (suc i)) (recordAt rest) (length rest / width) h))
 
 -- records of any width: inside the list, and behind its end
 module _ {A : Type 0} (width : ℕ) (recordAt : List ℕ → ℕ → A) (words : List ℕ) where

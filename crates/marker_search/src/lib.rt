@@ -6,12 +6,11 @@ ghost use Rattle.reading.specs.Text.{partOf};
 ghost use Rattle.reading.specs.Records.{markerList};
 ghost use Rattle.reading.specs.Markers.{markerPosition};
 
-// The position of the latest marker of a name, byte for byte, or none.
-pub fn marker(markers: &[u64], text: &[u8], name: Part) -> OptionU64
-    ensures { λ r. ⌜ r ≡ markerPosition (now (text .entry)) (markerList (now (markers .entry))) (partOf (now (text .entry)) name) ⌝ }
+// The position of the latest marker of a name, byte for byte, or none. The name is a text of its own.
+pub fn marker_named(markers: &[u64], text: &[u8], name: &[u8]) -> OptionU64
+    ensures { λ r. ⌜ r ≡ markerPosition (now (text .entry)) (markerList (now (markers .entry))) (now (name .entry)) ⌝ }
 {
-    let wanted = parts::part_of(text, name);
-    let n = wanted.len();
+    let n = name.len();
     let mut k = markers.len() / 3;
     let found = 'search: loop {
         if k == 0 {
@@ -29,7 +28,7 @@ pub fn marker(markers: &[u64], text: &[u8], name: Part) -> OptionU64
                 if j == n {
                     break 'search OptionU64::Some(markers[3 * k + 2]);
                 }
-                if other[j] != wanted[j] {
+                if other[j] != name[j] {
                     break 'name;
                 }
                 j += 1;
@@ -37,4 +36,12 @@ pub fn marker(markers: &[u64], text: &[u8], name: Part) -> OptionU64
         }
     };
     found
+}
+
+// The same of a name that is a part of the markers' text.
+pub fn marker(markers: &[u64], text: &[u8], name: Part) -> OptionU64
+    ensures { λ r. ⌜ r ≡ markerPosition (now (text .entry)) (markerList (now (markers .entry))) (partOf (now (text .entry)) name) ⌝ }
+{
+    let wanted = parts::part_of(text, name);
+    marker_named(markers, text, wanted)
 }

@@ -1,10 +1,11 @@
 -- Marker records as one flat list of numbers, three to a record, as the phase call reads them.
-use Prim.Native.Nat.{ℕ}
+use Prim.Native.Nat.{ℕ, _*_}
 use mathlib.Core.Bool.{cond}
 use mathlib.Core.List.{List, [], _∷_, _++_}
 use lib.ListN.{length, take, replicate}
 use lib.Dec.{ltb}
 use Rattle.reading.specs.declared.Marker.{Marker}
+use Rattle.reading.specs.Records.{markerList}
 use Rattle.markers.specs.declared.Unpacked.{Unpacked}
 
 -- 01: "Markers are lent as a list of marker records". Start and length of the name, and the position
@@ -27,3 +28,7 @@ blank count = record { words = wordsOf []; count = count }
 -- how many of so many markers are copied
 abbrev pub keptOf : ℕ → ℕ
 keptOf count = cond (ltb 257 count) 257 count
+
+-- the records that unpacked numbers stand for: no more than the 257 that are there
+abbrev pub markersIn : Unpacked → List Marker
+markersIn c = markerList (take (3 * c .count) (c .words))

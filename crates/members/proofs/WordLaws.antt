@@ -9,20 +9,8 @@ use Rattle.reading.specs.declared.DataEntry.{DataEntry}
 use Rattle.reading.specs.declared.JournalEntry.{JournalEntry}
 use Rattle.reading.specs.Lists.{over}
 use Rattle.reading.specs.Outcome.{atFreeEnd}
-use Rattle.reading.specs.Records.{values, recordList, journalFrom, journalList, journalWords, dataFrom, dataList, dataWords}
-
-module _ {A : Type 0} where
-  values-same : (f g : ℕ → A) (n : ℕ) → ((i : ℕ) → f i ≡ g i) → values f n ≡ values g n
-  values-same f g zero h = refl
-  values-same f g (suc n) h = ap (λ (a : A). a ∷ values (λ i. f (suc i)) n) (h zero)
-      ∙ ap (λ (l : List A). g zero ∷ l) (values-same (λ i. f (suc i)) (λ i. g (suc i)) n (λ i. h (suc i)))
-
-  -- numbers that start with one whole record: the record, and the list of the rest
-  records-cons : (width : ℕ) (recordAt : List ℕ → ℕ → A) (words rest : List ℕ) → length words / width ≡ suc (length rest / width)
-      → ((i : ℕ) → recordAt words (suc i) ≡ recordAt rest i)
-      → recordList width recordAt words ≡ recordAt words 0 ∷ recordList width recordAt rest
-  records-cons width recordAt words rest n h = rw n (ap (λ (l : List A). recordAt words 0 ∷ l)
-      (values-same (λ i. recordAt words (suc i)) (recordAt rest) (length rest / width) h))
+use Rattle.reading.specs.Records.{journalFrom, journalList, journalWords, dataFrom, dataList, dataWords}
+use Rattle.lists.proofs.RecordLaws.{records-cons}
 
 -- the journal
 pub journal-cons : (x y : ℕ) (rest : List ℕ) → journalList (x ∷ y ∷ rest) ≡ record { index = x; verdict = y } ∷ journalList rest

@@ -13,7 +13,7 @@ use Rattle.range_count.specs.declared.Stage.{Stage}
 use Rattle.range_count.specs.declared.Seen.{Seen}
 use Rattle.range_count.specs.declared.Step.{Step}
 use Rattle.range_count.specs.declared.PartEnd.{PartEnd}
-use Rattle.range_count.specs.Scan.{isBehind, nothingSeen, digitStep, blankStep, dashStep, plusStep, byteStep, pairEnd, partEnd}
+use Rattle.range_count.specs.Scan.{isBehind, nothingSeen, digitStep, blankStep, dashStep, plusStep, otherStep, pairEnd, partEnd}
 use Rattle.range_count.proofs.Numbers.{runFrom, someFrom, noneFrom, numFrom, trim-other, trim-blank, before-other, digit-not-blank, num-digit, num-blank-start, num-blank-behind, num-blank-plus, num-blank-digits, num-plus, num-other-plus, num-other-digits, num-other-behind, num-other}
 use Rattle.range_count.proofs.Dashes.{dashed, not-dash, isNone, part-whole}
 
@@ -159,6 +159,10 @@ and-right false b e = absurd (let z : _≡_ {A = ℕ} 0 1 = ap (λ (x : Bool). c
 
 pub digit-byte : (b : ℕ) → isDigit b ≡ true → (48 ≤ b) × (b ≤ 57)
 digit-byte b d = (leb-true 48 b (and-left (leb 48 b) (leb b 57) d), leb-true b 57 (and-right (leb 48 b) (leb b 57) d))
+
+-- one byte of a part, which is no comma
+abbrev pub byteStep : Seen → ℕ → Step
+byteStep s b = cond (isDigit b) (digitStep s b) (otherStep s b)
 
 pub on-byte : (b : ℕ) (s : List ℕ) (p : Seen) → says p (b ∷ s) ≡ saysNext (byteStep p b) s
 on-byte b s p = go (isDigit b) (isBlank b) (eqb b 45) (eqb b 43) refl refl refl refl

@@ -16,9 +16,9 @@ use Rattle.range_count.specs.declared.Step.{Step}
 use Rattle.range_count.specs.declared.PartEnd.{PartEnd}
 use Rattle.range_count.specs.declared.RangeCount.{RangeCount}
 use Rattle.range_count.specs.Count.{countOf, countIn}
-use Rattle.range_count.specs.Scan.{nothingSeen, digitStep, otherStep, byteStep, partEnd}
+use Rattle.range_count.specs.Scan.{nothingSeen, digitStep, otherStep, partEnd}
 use Rattle.range_count.proofs.Dashes.{isNone}
-use Rattle.range_count.proofs.Bytes.{noneSeen, sayFrom, says, saysNext, on-byte, ended, at-end, part-start}
+use Rattle.range_count.proofs.Bytes.{noneSeen, sayFrom, says, saysNext, byteStep, on-byte, ended, at-end, part-start}
 
 -- the pass from what is seen of a part, with n ranges counted before it
 abbrev pub afterPart : (ℕ → RangeCount) → ℕ → PartEnd → RangeCount

@@ -62,9 +62,6 @@ dashStep s =
 abbrev pub otherStep : Seen → ℕ → Step
 otherStep s b = cond (isBlank b) (blankStep s) (cond (eqb b 45) (dashStep s) (cond (eqb b 43) (plusStep s) Step.Bad))
 
-abbrev pub byteStep : Seen → ℕ → Step
-byteStep s b = cond (isDigit b) (digitStep s b) (otherStep s b)
-
 -- a part that ends behind its "-", and one that has none
 abbrev pub pairEnd : ℕ → ℕ → PartEnd
 pairEnd first second = cond (leb first second) (PartEnd.Counts 1) PartEnd.Bad

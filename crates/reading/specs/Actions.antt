@@ -74,6 +74,41 @@ flowBy (some p) =
 unfoldable pub lastFlow : List Placed → FlowOutcome
 lastFlow ps = flowBy (lastOf isFlow ps)
 
+-- THE SAME IN 01'S NUMBERS, said of the records: the enums have no part in it, so a promise that gives an enum's number and value
+-- by these determines the enum's case (Numbers.disruptiveKind and the three below it).
+
+-- 01: "1 deny, 2 block, 3 pass, 4 allow, 5 redirect, 6 drop"; 0 where there is none
+abbrev pub kindIn : Option Placed → ℕ
+kindIn none = 0
+kindIn (some p) = kindOf p
+
+unfoldable pub lastDisruptiveKind : List Placed → ℕ
+lastDisruptiveKind ps = kindIn (lastOf isDisruptive ps)
+
+-- a redirect's value is its position, where its text is found; the other kinds have none
+abbrev pub redirectIn : Option Placed → ℕ
+redirectIn none = 0
+redirectIn (some p) = cond (eqb (kindOf p) 5) (p .position) 0
+
+unfoldable pub lastDisruptiveValue : List Placed → ℕ
+lastDisruptiveValue ps = redirectIn (lastOf isDisruptive ps)
+
+-- 01: "7 chain, 8 skip .., 9 skipAfter, 10 multiMatch"; the last of these is read as none, 0
+abbrev pub flowKindIn : Option Placed → ℕ
+flowKindIn none = 0
+flowKindIn (some p) = cond (eqb (kindOf p) 10) 0 (kindOf p)
+
+unfoldable pub lastFlowKind : List Placed → ℕ
+lastFlowKind ps = flowKindIn (lastOf isFlow ps)
+
+-- a skip's value is its number, a skipAfter's its position
+abbrev pub flowValueIn : Option Placed → ℕ
+flowValueIn none = 0
+flowValueIn (some p) = cond (eqb (kindOf p) 8) (p .action .number) (cond (eqb (kindOf p) 9) (p .position) 0)
+
+unfoldable pub lastFlowValue : List Placed → ℕ
+lastFlowValue ps = flowValueIn (lastOf isFlow ps)
+
 -- the number, or the place, of the last action of one kind
 abbrev pub numberIn : Option Placed → OptionU64
 numberIn none = OptionU64.None

@@ -21,7 +21,7 @@ modeNumber RuleEngineMode.On = 0
 modeNumber RuleEngineMode.DetectionOnly = 1
 modeNumber RuleEngineMode.Off = 2
 
--- the mode of a number; refusal 1 turns away every number above 2
+-- the mode of a number; every number above 2 is refusal 1's
 abbrev pub modeNumbered : ℕ → RuleEngineMode
 modeNumbered n = cond (eqb n 0) RuleEngineMode.On (cond (eqb n 1) RuleEngineMode.DetectionOnly RuleEngineMode.Off)
 

@@ -1,27 +1,24 @@
 use borrow.Author.Needs.{needs}
 use mathlib.Core.Path.{sym, ap, _∙_}
-use Rattle.reading.specs.declared.CtlDirective.{CtlDirective}
-use Rattle.directive.proofs.Values.{target-yes, target-no}
+use Rattle.directive.specs.Settings.{targetBy}
 use Rattle.directive.proofs.rule_remove_target_by_id.Statement.{statement}
 use Rattle.directive.proofs.rule_remove_target_by_id.Tie as tie
 
-is-target-requires : tie.Need-is-target-requires
-is-target-requires c κs = search needs
+target-cut-requires : tie.Need-target-cut-requires
+target-cut-requires c κs = search needs
 
-find-requires : tie.Need-find-requires
-find-requires c κs = search needs
+enum-known-cut : tie.Need-enum-known-cut
+enum-known-cut c = search needs
+
+enum-told : tie.Need-enum-told
+enum-told c = search needs
 
 returns : tie.Need-returns
-returns c =
-    let a = c .before .before .before .before .before .args in
-    ap CtlDirective.RuleRemoveTargetById (c .find .ensures) ∙ target-yes (a .t .now) (a .value .now)
-    (sym (c .before .before .is-target .ensures) ∙ c .before .if1 .taken)
+returns c = ap targetBy (sym (c .enum-told .given .1)) ∙ c .before .before .target-cut .ensures
 
 returns-2 : tie.Need-returns-2
-returns-2 c =
-    let a = c .before .before .before .before .args in
-    target-no (a .t .now) (a .value .now) (sym (c .before .is-target .ensures) ∙ c .if1 .left)
+returns-2 c = ap targetBy (sym (c .before .cut .given .1)) ∙ c .before .before .before .target-cut .ensures
 
 pub rule-remove-target-by-id-spec : {M : Type 1} → statement M
 rule-remove-target-by-id-spec =
-    tie.close (tie.spec is-target-requires find-requires returns returns-2)
+    tie.close (tie.spec target-cut-requires enum-known-cut enum-told returns returns-2)

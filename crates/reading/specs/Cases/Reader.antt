@@ -1,7 +1,8 @@
--- The directive reader, the questions to the controls, additions to them and lent records at their open points, as tables.
+-- The directive reader, the questions to the controls, additions to them and lent records at their open points, and the numbers of
+-- what an action comes to, as tables.
 use Prim.Native.Nat.{ℕ}
 use mathlib.Core.Path.{_≡_, refl}
-use mathlib.Core.List.{List, [], _∷_}
+use mathlib.Core.List.{List, [], _∷_, map}
 use mathlib.Core.Bool.{Bool, true, false, _&&_}
 use lib.ListN.{length, replicate}
 use lib.Dec.{eqb}
@@ -14,10 +15,11 @@ use Rattle.reading.specs.declared.RuleIdRange.{RuleIdRange}
 use Rattle.reading.specs.declared.Place.{Place}
 use Rattle.reading.specs.declared.OptionU64.{OptionU64}
 use Rattle.reading.specs.declared.Action.{Action}
-use Rattle.reading.specs.Numbers.{modeNumber, accessNumber, directiveNumber, directiveValue}
+use Rattle.reading.specs.Numbers.{modeNumber, accessNumber, directiveNumber, directiveValue, disruptiveKind, disruptiveValue, flowKind, flowValue}
 use Rattle.reading.specs.Text.{ascii, same, trimStart, before, trimEnd, trim, fold, allDigits, valueFrom, digits, withoutPlus, numberOf, indexOf, onFirst, splitOn, oneId, idsTo, idsFrom, idPart, anyBad, rangesIn}
 use Rattle.reading.specs.Directive.{directiveOf, readerAnswer, ReaderOutcome, readerOutcome}
 use Rattle.reading.specs.Controls.{Controls, isRemoved, beyondLimits, askMode, askRemoved, askTargetCount, askTarget, askAccess, addRangeAnswer, addRangesAnswer, addTargetAnswer, withRange, withAllRanges, withTarget}
+use Rattle.reading.specs.Actions.{Placed, lastOf, lastDisruptive, lastFlow}
 use Rattle.reading.specs.Records.{actionAt, actionList}
 use Rattle.reading.specs.Cases.Build.{eqBool}
 
@@ -176,6 +178,23 @@ records =
     ∷ eqb (second .value .len) 10
     ∷ []
 
+-- THE ACTIONS: the number and the value of what one action comes to, for each kind from 0 to 10. It stands at position 3 and has the
+-- number 5.
+abbrev acting : ℕ → List Placed
+acting kind =
+    record { position = 3; action = record { kind = kind; number = 5; text = record { start = 0; len = 0 }; value = record { start = 0; len = 0 } } } ∷ []
+
+abbrev kinds : List ℕ
+kinds = 0 ∷ 1 ∷ 2 ∷ 3 ∷ 4 ∷ 5 ∷ 6 ∷ 7 ∷ 8 ∷ 9 ∷ 10 ∷ []
+
+abbrev outcomes : List Bool
+outcomes =
+    same (map (λ kind. disruptiveKind (lastDisruptive (acting kind))) kinds) (0 ∷ 1 ∷ 2 ∷ 3 ∷ 4 ∷ 5 ∷ 6 ∷ 0 ∷ 0 ∷ 0 ∷ 0 ∷ [])
+    ∷ same (map (λ kind. disruptiveValue (lastDisruptive (acting kind))) kinds) (0 ∷ 0 ∷ 0 ∷ 0 ∷ 0 ∷ 3 ∷ 0 ∷ 0 ∷ 0 ∷ 0 ∷ 0 ∷ [])
+    ∷ same (map (λ kind. flowKind (lastFlow (acting kind))) kinds) (0 ∷ 0 ∷ 0 ∷ 0 ∷ 0 ∷ 0 ∷ 0 ∷ 7 ∷ 8 ∷ 9 ∷ 0 ∷ [])
+    ∷ same (map (λ kind. flowValue (lastFlow (acting kind))) kinds) (0 ∷ 0 ∷ 0 ∷ 0 ∷ 0 ∷ 0 ∷ 0 ∷ 0 ∷ 5 ∷ 3 ∷ 0 ∷ [])
+    ∷ []
+
 pub question-table : allTrue questions ≡ true
 unfolding allTrue beyondLimits isRemoved
 question-table = refl
@@ -191,3 +210,7 @@ joint-addition-table = refl
 pub record-table : allTrue records ≡ true
 unfolding allTrue actionList
 record-table = refl
+
+pub outcome-table : allTrue outcomes ≡ true
+unfolding allTrue same lastOf lastDisruptive lastFlow
+outcome-table = refl
