@@ -19,7 +19,7 @@ fn write_after(p: Phase, ids: &[u64; 16], entries: &[u64; 64]) {
     let held = after.controls;
     let settings = held.settings;
     let count = held.ranges;
-    case_walk::write_answer(p.answer);
+    case_walk::write_answer(p.answer.answer);
     case_walk::write_ids(ids, after.ids);
     case_walk::write_entries(entries, after.entries);
     case_walk::write_controls(settings, &held.starts, &held.ends, count);
@@ -73,7 +73,7 @@ fn run_records(
     let after = p.transaction;
     let words = last_words(after);
     case_walk::write_head(s, c, markers);
-    case_walk::write_rules(s, rules, actions, &journal, p.visits, words);
+    case_walk::write_rules(s, rules, actions, &journal, p.answer.visits as usize, words);
     write_after(p, &ids, &entries);
 }
 

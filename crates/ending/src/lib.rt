@@ -2,6 +2,7 @@
 use adding::Held;
 use control::Controls;
 use control::Settings;
+use phase::Answer;
 use phase::Phase;
 use phase::Transaction;
 use reading::OptionIntervention;
@@ -110,8 +111,11 @@ pub fn ended(
 ) -> Phase
     ensures { λ r. ⌜ r ≡ endedBy ending last visits ids entries stop (structOf h starts ends phases positions) ⌝ }
 {
-    let answer = answer_of(ending);
-    let error = error_of(ending, last);
+    let answer = Answer {
+        answer: answer_of(ending),
+        error: error_of(ending, last),
+        visits: visits as u64,
+    };
     let allowed = gives_allow(ending);
     let settings = h.settings;
     let controls = Controls {
@@ -125,8 +129,6 @@ pub fn ended(
     };
     Phase {
         answer,
-        error,
-        visits,
         transaction: Transaction {
             controls,
             allowed,

@@ -25,6 +25,8 @@ use Rattle.markers.specs.declared.Unpacked.{Unpacked}
 use Rattle.markers.specs.Unpacked.{unpackedOf}
 use Rattle.markers.proofs.Padded.{words-length}
 use Rattle.refusals.specs.Lent.{Lent, firstOfSeven}
+use Rattle.phase.specs.declared.Answer.{Answer}
+use Rattle.phase.specs.declared.Phase.{Phase}
 use Rattle.phase.specs.declared.Transaction.{Transaction}
 use Rattle.phase.specs.Phase.{transactionOf, callOf, Ran}
 use Rattle.phase.proofs.Promise.{length-data-list, length-journal-list}
@@ -33,10 +35,8 @@ use Rattle.numbered.specs.Controls.{controlsFromHost, controlsToHost}
 use Rattle.records.specs.Whole.{known, fromHost, toHost}
 use Rattle.numbers.specs.Parts.{flagNumber}
 use Rattle.records.proofs.Back.{back, forth}
-use Rattle.words.specs.declared.Answer.{Answer}
-use Rattle.words.specs.Lent.{callLent, phaseOf, lentWords, lentPart}
+use Rattle.words.specs.Lent.{callLent, lentWords, lentPart}
 use Rattle.words.proofs.LentLaws.{few-words, ran-lent}
-use Rattle.handed.specs.declared.HostAnswer.{HostAnswer}
 use Rattle.handed.specs.Handed.{phaseFound, unknownAnswer, HostRan, keptOf, sizesOf, interventionAfter, writtenOf}
 
 -- a test that is true is not false
@@ -160,7 +160,7 @@ many-lent m full = by (ltb 257 (m .count)) refl
 
 -- what the call on the first numbers of unpacked markers leaves of a record, the call on the marker records leaves
 pub host-lent : (phase mode status : ℕ) (rules actions : List ℕ) (ms : List Marker) (text outcomes : List ℕ) (h : HostTransaction)
-    (ids entries journal : List ℕ) (a : HostAnswer) (h′ : HostTransaction) (ids′ entries′ journal′ : List ℕ)
+    (ids entries journal : List ℕ) (a : Answer) (h′ : HostTransaction) (ids′ entries′ journal′ : List ℕ)
     → HostRan h (callOf phase mode status rules actions (lentPart (unpackedOf ms)) text outcomes (fromHost h) ids entries journal) ids entries journal a h′ ids′ entries′ journal′
     → HostRan h (callLent phase mode status rules actions ms text outcomes (fromHost h) ids entries journal) ids entries journal a h′ ids′ entries′ journal′
 host-lent phase mode status rules actions ms text outcomes h ids entries journal a h′ ids′ entries′ journal′ r = record {
@@ -209,13 +209,13 @@ kept-transaction p e =
     ∙ ap (λ (vs : List Visit). transactionAfter p vs) (sym (no-entries (visitsOf p) e))
 
 -- the transaction behind a call without a visit is the one before it
-unmoved : (p : Call) (t u : Transaction) → p .transaction ≡ transactionOf t → SameSizes (u .controls) (t .controls)
-    → (entries journal ids′ entries′ journal′ : List ℕ) (a : Answer)
-    → Ran p t entries journal (phaseOf a u) ids′ entries′ journal′ → a .visits ≡ 0 → u ≡ t
-unmoved p t u is sizes entries journal ids′ entries′ journal′ a ran none =
+unmoved : (p : Call) (t : Transaction) (r : Phase) → p .transaction ≡ transactionOf t → SameSizes (r .transaction .controls) (t .controls)
+    → (entries journal ids′ entries′ journal′ : List ℕ)
+    → Ran p t entries journal r ids′ entries′ journal′ → r .answer .visits ≡ 0 → r .transaction ≡ t
+unmoved p t r is sizes entries journal ids′ entries′ journal′ ran none =
     let same : transactionOf t ≡ outcomeOf p .transaction
     = sym is ∙ kept-transaction p (ap (λ (o : Outcome). o .visits) (sym (ran .outcome)) ∙ none) in
-    let found : transactionOf u ≡ transactionOf t = ap (λ (o : Outcome). o .transaction) (ran .outcome) ∙ sym same in
+    let found : transactionOf (r .transaction) ≡ transactionOf t = ap (λ (o : Outcome). o .transaction) (ran .outcome) ∙ sym same in
     let stays : Became (t .controls) (t .controls) (outcomeOf p .transaction .controls) = record {
       meaning = ap (λ (x : reading.Transaction). x .controls) same;
       starts = refl;
@@ -223,7 +223,7 @@ unmoved p t u is sizes entries journal ids′ entries′ journal′ a ran none =
       phases = refl;
       positions = refl;
     } in
-    let controls = determined (t .controls) (u .controls) (t .controls) (outcomeOf p .transaction .controls) sizes (ran .controls) stays in
+    let controls = determined (t .controls) (r .transaction .controls) (t .controls) (outcomeOf p .transaction .controls) sizes (ran .controls) stays in
     λ i. record {
       controls = controls i;
       allowed = found i .allowed;
@@ -232,24 +232,27 @@ unmoved p t u is sizes entries journal ids′ entries′ journal′ a ran none =
       entries = found i .data-entries;
     }
 
--- what `run_unpacked` gave, of the transaction t that the record stands for, and what was written
+-- r is what the phase call gave of the transaction t that the record stands for, and h′ what was written
 module _ (h : HostTransaction) (t : Transaction) (is : t ≡ fromHost h) (callWith : Transaction → Call)
     (holds : (x : Transaction) → callWith x .transaction ≡ transactionOf x)
-    (ids entries journal ids′ entries′ journal′ : List ℕ) (a : Answer) (u : Transaction) (k : known h ≡ true)
-    (sizes : SameSizes (u .controls) (controlsFromHost (h .controls)))
-    (ran : Ran (callWith t) t entries journal (phaseOf a u) ids′ entries′ journal′)
-    (h′ : HostTransaction) (wrote : h′ ≡ writtenOf (h .intervention) (a .visits) u) where
-  abbrev host : HostAnswer
-  host = record { answer = a .answer; error = a .error; visits = a .visits }
+    (ids entries journal ids′ entries′ journal′ : List ℕ) (r : Phase) (k : known h ≡ true)
+    (sizes : SameSizes (r .transaction .controls) (controlsFromHost (h .controls)))
+    (ran : Ran (callWith t) t entries journal r ids′ entries′ journal′)
+    (h′ : HostTransaction) (wrote : h′ ≡ writtenOf (h .intervention) (r .answer .visits) (r .transaction)) where
+  abbrev a : Answer
+  a = r .answer
 
-  here : Ran (callWith (fromHost h)) (fromHost h) entries journal (phaseOf a u) ids′ entries′ journal′
-  here = subst (λ (x : Transaction). Ran (callWith x) x entries journal (phaseOf a u) ids′ entries′ journal′) is ran
+  abbrev u : Transaction
+  u = r .transaction
+
+  here : Ran (callWith (fromHost h)) (fromHost h) entries journal r ids′ entries′ journal′
+  here = subst (λ (x : Transaction). Ran (callWith x) x entries journal r ids′ entries′ journal′) is ran
 
   -- of a record that stands for what was found
   standing : u ≡ fromHost h′ → h′ ≡ cond (eqb (a .visits) 0) h (toHost (fromHost h′))
-      → HostRan h (callWith (fromHost h)) ids entries journal host h′ ids′ entries′ journal′
+      → HostRan h (callWith (fromHost h)) ids entries journal a h′ ids′ entries′ journal′
   standing from numbers = record {
-    ran = λ _. subst (λ (x : Transaction). Ran (callWith (fromHost h)) (fromHost h) entries journal (phaseOf a x) ids′ entries′ journal′) from here;
+    ran = λ _. subst (λ (x : Transaction). Ran (callWith (fromHost h)) (fromHost h) entries journal (record { answer = a; transaction = x }) ids′ entries′ journal′) from here;
     record-is = λ _. numbers;
     turned-away = λ y. absurd (not-both (known h) k y);
   }
@@ -261,7 +264,7 @@ module _ (h : HostTransaction) (t : Transaction) (is : t ≡ fromHost h) (callWi
   as-lent : eqb (a .visits) 0 ≡ true → h′ ≡ h
   unfolding writtenOf interventionAfter
   as-lent z =
-      let still : u ≡ fromHost h = unmoved (callWith (fromHost h)) (fromHost h) u (holds (fromHost h)) same-sizes entries journal ids′ entries′ journal′ a here
+      let still : u ≡ fromHost h = unmoved (callWith (fromHost h)) (fromHost h) r (holds (fromHost h)) same-sizes entries journal ids′ entries′ journal′ here
       (eqb-true (a .visits) 0 z) in
       wrote ∙ (rw z (λ i. record {
         controls = controlsToHost (still i .controls);
@@ -276,13 +279,13 @@ module _ (h : HostTransaction) (t : Transaction) (is : t ≡ fromHost h) (callWi
   unfolding writtenOf interventionAfter toHost
   anew z = wrote ∙ rw z
 
-  pub handed : HostRan h (callWith (fromHost h)) ids entries journal host h′ ids′ entries′ journal′
+  pub handed : HostRan h (callWith (fromHost h)) ids entries journal a h′ ids′ entries′ journal′
   handed = go (eqb (a .visits) 0) refl
     where
-      go : (b : Bool) → eqb (a .visits) 0 ≡ b → HostRan h (callWith (fromHost h)) ids entries journal host h′ ids′ entries′ journal′
+      go : (b : Bool) → eqb (a .visits) 0 ≡ b → HostRan h (callWith (fromHost h)) ids entries journal a h′ ids′ entries′ journal′
       go true z =
           standing
-          (unmoved (callWith (fromHost h)) (fromHost h) u (holds (fromHost h)) same-sizes entries journal ids′ entries′ journal′ a here (eqb-true (a .visits) 0 z)
+          (unmoved (callWith (fromHost h)) (fromHost h) r (holds (fromHost h)) same-sizes entries journal ids′ entries′ journal′ here (eqb-true (a .visits) 0 z)
           ∙ ap fromHost (sym (as-lent z)))
           (as-lent z ∙ sym (ap (λ (b : Bool). cond b h (toHost (fromHost h′))) z))
       go false z =

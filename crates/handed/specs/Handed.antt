@@ -7,6 +7,7 @@ use lib.Dec.{eqb, leb}
 use Rattle.reading.specs.Call.{Call}
 use Rattle.reading.specs.Refusals.{refused1, refused2, refused3, refused4}
 use Rattle.refusals.specs.declared.Sizes.{Sizes}
+use Rattle.phase.specs.declared.Answer.{Answer}
 use Rattle.phase.specs.declared.Phase.{Phase}
 use Rattle.phase.specs.Phase.{Ran}
 use Rattle.records.specs.declared.HostTransaction.{HostTransaction}
@@ -17,12 +18,10 @@ use Rattle.numbers.specs.Parts.{flagNumber}
 use Rattle.stops.specs.Parts.{hostIntervention}
 use Rattle.numbered.specs.Controls.{controlsToHost}
 use Rattle.records.specs.Whole.{known, fromHost, toHost}
-use Rattle.words.specs.Lent.{phaseOf}
-use Rattle.handed.specs.declared.HostAnswer.{HostAnswer}
 
 -- the answer and the transaction that are found after the call
-abbrev pub phaseFound : HostAnswer → HostTransaction → Phase
-phaseFound a h = phaseOf (record { answer = a .answer; error = a .error; visits = a .visits }) (fromHost h)
+abbrev pub phaseFound : Answer → HostTransaction → Phase
+phaseFound a h = record { answer = a; transaction = fromHost h }
 
 -- A record with a number that is not known is refused with 5, for it holds "an unknown kind, flag or outcome"; "the first that
 -- applies is the answer", so refusals 1 to 4 go before.
@@ -34,7 +33,7 @@ unknownAnswer q =
     (cond (refused4 q) 4 5)))
 
 -- 01: "transaction and lists are found exactly as lent"
-pub record TurnedAway (h : HostTransaction) (q : Call) (ids entries journal : List ℕ) (a : HostAnswer) (h′ : HostTransaction) (ids′ entries′ journal′ : List ℕ) : Type 0 where
+pub record TurnedAway (h : HostTransaction) (q : Call) (ids entries journal : List ℕ) (a : Answer) (h′ : HostTransaction) (ids′ entries′ journal′ : List ℕ) : Type 0 where
   pub answer : a ≡ record { answer = unknownAnswer q; error = 0; visits = 0 }
   pub transaction : h′ ≡ h
   pub ids-are : ids′ ≡ ids
@@ -43,7 +42,7 @@ pub record TurnedAway (h : HostTransaction) (q : Call) (ids entries journal : Li
 
 -- THE PROMISE TO A HOST. h is the record and q the call on the transaction that it stands for; the lists are those lent, and a, h′
 -- and the lists with a mark are what is found.
-pub record HostRan (h : HostTransaction) (q : Call) (ids entries journal : List ℕ) (a : HostAnswer) (h′ : HostTransaction) (ids′ entries′ journal′ : List ℕ) : Type 0 where
+pub record HostRan (h : HostTransaction) (q : Call) (ids entries journal : List ℕ) (a : Answer) (h′ : HostTransaction) (ids′ entries′ journal′ : List ℕ) : Type 0 where
   -- every number is known: the phase call's own promise
   pub ran : known h ≡ true → Ran q (fromHost h) entries journal (phaseFound a h′) ids′ entries′ journal′
   -- and of each number of the record: a call without a visit, refused or idle, leaves it as lent, any other writes it anew

@@ -1,5 +1,6 @@
 // The phase call on a host's record, by value. A record with a number that is not known is turned away as it is.
 use markers::Unpacked;
+use phase::Answer;
 use phase::Transaction;
 use reading::OptionIntervention;
 use records::HostTransaction;
@@ -15,17 +16,9 @@ ghost use Rattle.records.specs.Whole.{fromHost};
 ghost use Rattle.words.specs.Lent.{lentPart};
 ghost use Rattle.handed.specs.Handed.{keptOf, sizesOf, interventionAfter, writtenOf, HostRan};
 
-// 0, 10, or the number of a refusal; the index of the rule that had the error, with 10; and how many entries the journal holds.
-#[repr(C)]
-pub struct HostAnswer {
-    pub answer: u64,
-    pub error: u64,
-    pub visits: u64,
-}
-
 // The answer, and the record after the call.
 pub struct HostHanded {
-    pub answer: HostAnswer,
+    pub answer: Answer,
     pub transaction: HostTransaction,
 }
 
@@ -93,7 +86,7 @@ fn sizes_of(h: HostTransaction, ids: usize, entries: usize, journal: usize) -> S
 // The intervention behind a call: without a visit it is as it came.
 fn intervention_after(
     before: HostIntervention,
-    visits: usize,
+    visits: u64,
     after: OptionIntervention,
 ) -> HostIntervention
     ensures { λ r. ⌜ r ≡ interventionAfter before visits after ⌝ }
@@ -106,7 +99,7 @@ fn intervention_after(
 
 // The record behind a call. Known numbers are read and written back as they were, so without a visit the record is as it came
 // where its intervention is. It isn't kept whole for that: a copy of it costs as much as twenty rules.
-fn written(before: HostIntervention, visits: usize, t: Transaction) -> HostTransaction
+fn written(before: HostIntervention, visits: u64, t: Transaction) -> HostTransaction
     ensures { λ r. ⌜ r ≡ writtenOf before visits t ⌝ }
 {
     let controls = numbered::controls_to_host(t.controls);
@@ -152,13 +145,13 @@ pub fn host_phase(
             outcomes,
             sizes,
         );
-        let turned = HostAnswer {
+        let answer = Answer {
             answer: refusal,
             error: 0,
             visits: 0,
         };
         return HostHanded {
-            answer: turned,
+            answer,
             transaction: h,
         };
     }
@@ -178,14 +171,9 @@ pub fn host_phase(
         entries,
         journal,
     );
-    let a = p.answer;
-    let answer = HostAnswer {
-        answer: a.answer,
-        error: a.error,
-        visits: a.visits as u64,
-    };
+    let answer = p.answer;
     let after = p.transaction;
-    let transaction = written(h.intervention, a.visits, after);
+    let transaction = written(h.intervention, answer.visits, after);
     HostHanded {
         answer,
         transaction,

@@ -3,10 +3,10 @@
 use added::HostChanged;
 use asked::HostAsked;
 use asked::HostTarget;
-use handed::HostAnswer;
 use marker_lookup::HostMarker;
 use numbered::HostControls;
 use numbers::HostNumber;
+use phase::Answer;
 use reader::DirectiveRead;
 use reading::BodyAccess;
 use reading::BodyProcessor;
@@ -98,7 +98,7 @@ pub extern "C" fn tivembo_run_phase(
     ids: &mut [u64],
     entries: &mut [u64],
     journal: &mut [u64],
-) -> HostAnswer
+) -> Answer
     ensures { λ r. ⌜ HostRan (now (t .entry)) (callLent phase mode status (now (rules .entry)) (now (actions .entry)) (now (markers .entry)) (now (text .entry)) (now (outcomes .entry)) (fromHost (now (t .entry))) (now (ids .entry)) (now (entries .entry)) (now (journal .entry)))
         (now (ids .entry)) (now (entries .entry)) (now (journal .entry)) r (now (t .exit)) (now (ids .exit)) (now (entries .exit)) (now (journal .exit)) ⌝ }
 {

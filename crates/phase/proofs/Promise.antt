@@ -146,7 +146,7 @@ module _ (phase mode status : ℕ) (rules actions markers text outcomes : List �
   q = callOf phase mode status rules actions markers text outcomes t ids entries journal
 
   abbrev lent : ℕ → Phase
-  lent k = record { answer = k; error = 0; visits = 0; transaction = t }
+  lent k = record { answer = record { answer = k; error = 0; visits = 0 }; transaction = t }
 
   ran-as-lent : (k : ℕ) → k ≡ outcomeOf q .answer → AsLent q (outcomeOf q) → visitsOf q ≡ []
       → Ran q t entries journal (lent k) ids entries journal
@@ -244,10 +244,10 @@ module _ (phase mode status : ℕ) (rules actions markers text outcomes : List �
       outcome-is =
           let b : Busy q = busy q h in
           let back : vs ≡ visitsOf q = sym visits-are in
-          let answer : r .answer ≡ outcomeOf q .answer =
+          let answer : r .answer .answer ≡ outcomeOf q .answer =
           w .answer ∙ (ap answerBy (sym (walk-is q h)) ∙ sym (accepted-answer q e)) in
-          let error : r .error ≡ outcomeOf q .error = w .error ∙ ap errorIndexBy back in
-          let visits : r .visits ≡ outcomeOf q .visits = w .visits ∙ ap length back in
+          let error : r .answer .error ≡ outcomeOf q .error = w .error ∙ ap errorIndexBy back in
+          let visits : r .answer .visits ≡ outcomeOf q .visits = w .visits ∙ ap length back in
           let found : journalList journal′ ≡ outcomeOf q .journal =
           journal-is ∙ ap (λ (l : List Visit). over (journalList journal) (journalOf l)) back in
           let listed : ids′ ≡ outcomeOf q .ids =

@@ -127,7 +127,7 @@ module _ (g : Given) where
   RanAs r = Ran q (g .t) (g .entries) (g .journal) r (g .ids) (g .entries) (g .journal)
 
   abbrev lent : ℕ → Phase
-  lent k = record { answer = k; error = 0; visits = 0; transaction = g .t }
+  lent k = record { answer = record { answer = k; error = 0; visits = 0 }; transaction = g .t }
 
   module _ (k : ℕ) (r : Phase) (e : r ≡ lent k) where
     pub ran-by : k ≡ refusalOf q → (k ≡ 0 → ⊥) → RanAs r

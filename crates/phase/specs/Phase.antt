@@ -46,9 +46,9 @@ callOf phase mode status rules actions markers text outcomes t ids entries journ
 -- what is found after the call
 abbrev pub outcomeFound : Phase → List ℕ → List ℕ → List ℕ → Outcome
 outcomeFound r ids entries journal = record {
-  answer = r .answer;
-  error = r .error;
-  visits = r .visits;
+  answer = r .answer .answer;
+  error = r .answer .error;
+  visits = r .answer .visits;
   journal = journalList journal;
   ids = ids;
   data-entries = dataList entries;

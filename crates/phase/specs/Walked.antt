@@ -63,17 +63,15 @@ isAllows Ending.Stops = false
 -- the answer of a walk that ended so at the rule `last`
 abbrev pub endedBy : Ending → ℕ → ℕ → ℕ → ℕ → OptionIntervention → Controls → Phase
 endedBy e last visits ids entries stop c = record {
-  answer = cond (isErrs e) 10 0;
-  error = cond (isErrs e) last 0;
-  visits = visits;
+  answer = record { answer = cond (isErrs e) 10 0; error = cond (isErrs e) last 0; visits = visits };
   transaction = record { controls = c; allowed = isAllows e; intervention = stop; ids = ids; entries = entries };
 }
 
 -- of a transaction without allow and intervention
 pub record Walked (q : Call) (t : Transaction) (ids entries journal : List ℕ) (r : Phase) (ids′ entries′ journal′ : List ℕ) : Type 0 where
-  pub answer : r .answer ≡ answerBy (visitsFrom q)
-  pub error : r .error ≡ errorIndexBy (visitsFrom q)
-  pub visits : r .visits ≡ length (visitsFrom q)
+  pub answer : r .answer .answer ≡ answerBy (visitsFrom q)
+  pub error : r .answer .error ≡ errorIndexBy (visitsFrom q)
+  pub visits : r .answer .visits ≡ length (visitsFrom q)
   pub journal-numbers : journal′ ≡ over journal (journalWords (journalOf (visitsFrom q)))
   pub ids-listed : ids′ ≡ atFreeEnd (t .ids) ids (idsOf q (visitsFrom q))
   pub data-numbers : entries′ ≡ atFreeEnd (4 * t .entries) entries (dataWords (dataOf q (visitsFrom q)))

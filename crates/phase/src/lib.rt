@@ -12,11 +12,17 @@ pub struct Transaction {
     pub entries: usize,
 }
 
-// What a phase call answers: 0, 10, or the number of a refusal; the index of the rule that had the error, with 10; how many
-// entries the journal holds; and the transaction after the call.
-pub struct Phase {
+// What a phase call answers, the same from the walk to a host: 0, 10, or the number of a refusal; the index of the rule that had
+// the error, with 10; and how many entries the journal holds.
+#[repr(C)]
+pub struct Answer {
     pub answer: u64,
     pub error: u64,
-    pub visits: usize,
+    pub visits: u64,
+}
+
+// The answer, and the transaction after the call.
+pub struct Phase {
+    pub answer: Answer,
     pub transaction: Transaction,
 }

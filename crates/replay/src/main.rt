@@ -130,9 +130,12 @@ fn compare_lists(
     let written = replay_line::items(list, e.entries, 3);
     let ids_after = p.transaction.ids;
     let entries_after = p.transaction.entries;
-    let mut t = c.told(p.answer == e.answer && p.error == e.error, b"answer");
+    let mut t = c.told(
+        p.answer.answer == e.answer && p.answer.error == e.error,
+        b"answer",
+    );
     t = t.told(
-        replay_line::same_visits(visits, journal, p.visits),
+        replay_line::same_visits(visits, journal, p.answer.visits as usize),
         b"visits",
     );
     t = t.told(

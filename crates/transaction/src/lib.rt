@@ -1,6 +1,7 @@
 // The phase call (`Transaction::run_phase` in engine/transaction.rs), by value: transaction in, transaction and answer out.
 use adding::Held;
 use control::Controls;
+use phase::Answer;
 use phase::Phase;
 use phase::Transaction;
 use reading::OptionIntervention;
@@ -185,12 +186,15 @@ fn walk_rules(
 
 // An answer that leaves the transaction as it was.
 fn as_lent(answer: u64, t: Transaction) -> Phase
-    ensures { λ r. ⌜ r ≡ record { answer = answer; error = 0; visits = 0; transaction = t } ⌝ }
+    ensures { λ r. ⌜ r ≡ record { answer = record { answer = answer; error = 0; visits = 0 }; transaction = t } ⌝ }
 {
-    Phase {
+    let answer = Answer {
         answer,
         error: 0,
         visits: 0,
+    };
+    Phase {
+        answer,
         transaction: t,
     }
 }

@@ -10,9 +10,7 @@ use Rattle.reading.specs.Records.{ruleList, actionList, dataList, journalList}
 use Rattle.reading.specs.Call.{Call}
 use Rattle.markers.specs.declared.Unpacked.{Unpacked}
 use Rattle.phase.specs.declared.Transaction.{Transaction}
-use Rattle.phase.specs.declared.Phase.{Phase}
 use Rattle.phase.specs.Phase.{transactionOf}
-use Rattle.words.specs.declared.Answer.{Answer}
 
 -- 01: "Markers are lent as a list of marker records". The call, in the Rust's reading
 abbrev pub callLent : ℕ → ℕ → ℕ → List ℕ → List ℕ → List Marker → List ℕ → List ℕ → Transaction → List ℕ → List ℕ → List ℕ → Call
@@ -31,10 +29,6 @@ callLent phase mode status rules actions markers text outcomes t ids entries jou
   data-entries = dataList entries;
   journal = journalList journal;
 }
-
--- the answer and the transaction after the call, as one
-abbrev pub phaseOf : Answer → Transaction → Phase
-phaseOf a t = record { answer = a .answer; error = a .error; visits = a .visits; transaction = t }
 
 -- how many numbers of unpacked markers are read: those of the first 257
 abbrev pub lentWords : ℕ → ℕ

@@ -1,25 +1,12 @@
 // The phase call by value, on markers as a host's are unpacked to numbers.
+use phase::Phase;
 use phase::Transaction;
 ghost use mathlib.Core.Path.{_≡_};
 ghost use mathlib.Core.Bool.{cond};
 ghost use lib.Dec.{ltb};
 ghost use lib.ListN.{take};
 ghost use Rattle.phase.specs.Phase.{Ran, callOf};
-ghost use Rattle.words.specs.Lent.{phaseOf, lentWords};
-
-// What a phase call answers, without the transaction: 0, 10, or the number of a refusal; the index of the rule that had the
-// error, with 10; and how many entries the journal holds.
-pub struct Answer {
-    pub answer: u64,
-    pub error: u64,
-    pub visits: usize,
-}
-
-// The answer, and the transaction after the call.
-pub struct Handed {
-    pub answer: Answer,
-    pub transaction: Transaction,
-}
+ghost use Rattle.words.specs.Lent.{lentWords};
 
 // How many numbers stand for so many markers.
 fn word_count(count: usize) -> usize
@@ -58,12 +45,12 @@ pub fn run_words(
     ids: &mut [u64],
     entries: &mut [u64],
     journal: &mut [u64],
-) -> Handed
+) -> Phase
     ensures { λ r. ⌜ Ran (callOf phase mode status (now (rules .entry)) (now (actions .entry)) (take (lentWords count) (now (words .entry))) (now (text .entry)) (now (outcomes .entry)) t (now (ids .entry)) (now (entries .entry)) (now (journal .entry)))
-        t (now (entries .entry)) (now (journal .entry)) (phaseOf (r .answer) (r .transaction)) (now (ids .exit)) (now (entries .exit)) (now (journal .exit)) ⌝ }
+        t (now (entries .entry)) (now (journal .entry)) r (now (ids .exit)) (now (entries .exit)) (now (journal .exit)) ⌝ }
 {
     let n = part_length(count, words.len());
-    let p = transaction::run_phase(
+    transaction::run_phase(
         t,
         phase,
         mode,
@@ -76,14 +63,5 @@ pub fn run_words(
         ids,
         entries,
         journal,
-    );
-    let transaction = p.transaction;
-    Handed {
-        answer: Answer {
-            answer: p.answer,
-            error: p.error,
-            visits: p.visits,
-        },
-        transaction,
-    }
+    )
 }

@@ -77,7 +77,7 @@ returns-2 c =
     let known = p .before .before .before .before .before .before .before .before .before in
     handed (a .h) (p .before .before .before .before .before .before .before .from-host .result) (p .before .before .before .before .before .before .before .from-host .ensures)
     (λ x. callOf (a .phase) (a .mode) (a .status) (now (a .rules)) (now (a .actions)) (lentPart (a .t7)) (now (a .text)) (now (a .outcomes)) x (now (a .ids)) (now (a .entries)) (now (a .journal)))
-    (λ x. refl) (now (a .ids)) (now (a .entries)) (now (a .journal)) (p .run-words .last .1 .1 .1 .1 .1 .1 .1 .1 .1 .1 .0) (p .run-words .last .1 .1 .1 .1 .1 .1 .1 .1 .1 .1 .1 .0) (p .run-words .last .1 .1 .1 .1 .1 .1 .1 .1 .1 .1 .1 .1 .0) (p .run-words .result .answer) (p .run-words .result .transaction)
+    (λ x. refl) (now (a .ids)) (now (a .entries)) (now (a .journal)) (p .run-words .last .1 .1 .1 .1 .1 .1 .1 .1 .1 .1 .0) (p .run-words .last .1 .1 .1 .1 .1 .1 .1 .1 .1 .1 .1 .0) (p .run-words .last .1 .1 .1 .1 .1 .1 .1 .1 .1 .1 .1 .1 .0) (p .run-words .result)
     (sym (known .is-known .ensures) ∙ not-false _ (p .before .before .before .before .before .before .before .before .if1 .left))
     (sizes p) (p .run-words .ensures) _ (c .written .ensures)
 

@@ -53,8 +53,8 @@ use Rattle.records.proofs.HostTransaction as T
 use Rattle.records.proofs.HostTransaction.Laws as T′
 use Rattle.handed.proofs.HostHanded as P
 use Rattle.handed.proofs.HostHanded.Laws as P′
-use Rattle.handed.proofs.HostAnswer as Q
-use Rattle.handed.proofs.HostAnswer.Laws as Q′
+use Rattle.phase.proofs.Answer as Q
+use Rattle.phase.proofs.Answer.Laws as Q′
 use Rattle.reading.specs.declared.Marker.{Marker}
 use Rattle.markers.specs.declared.Unpacked.{Unpacked}
 use Rattle.reading.proofs.Marker as R-Marker

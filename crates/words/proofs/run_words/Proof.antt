@@ -41,7 +41,7 @@ same-length-3 c = search needs
 
 returns : tie.Need-returns
 returns c =
-    let p = c .before .before .before .before .before .before .before in
+    let p = c .before .before .before .before .before .before in
     let n = counted p in
     let a = begun n .args in
     ran-part (a .phase) (a .mode) (a .status) (now (a .rules)) (now (a .actions)) (now (a .words)) (now (a .text)) (now (a .outcomes)) (a .t) (now (a .ids)) (now (a .entries)) (now (a .journal))
