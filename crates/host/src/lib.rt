@@ -1,5 +1,6 @@
 // What C and Rust call: the directive reader, the phase call, questions to the controls and additions to them. No enum goes over,
 // and none of these asks anything of what it is lent: a number that is not known is refused.
+use abi_phase::HostTransaction;
 use added::HostChanged;
 use asked::HostAsked;
 use asked::HostTarget;
@@ -13,16 +14,14 @@ use reading::BodyProcessor;
 use reading::CtlDirective;
 use reading::Marker;
 use reading::RuleEngineMode;
-use records::HostTransaction;
 ghost use mathlib.Core.Path.{_≡_};
 ghost use Rattle.reading.specs.Directive.{readerOutcome};
 ghost use Rattle.reading.specs.Numbers.{directiveNumber, directiveValue};
 ghost use Rattle.reading.specs.Controls.{withRange, withTarget, addRangeAnswer, addTargetAnswer};
-ghost use Rattle.records.specs.Whole.{fromHost};
+ghost use Rattle.abi_phase.specs.HostRecord.{fromHost};
 ghost use Rattle.asked.specs.Asked.{controlsIn, hostMode, hostRemoved, hostTargetCount, hostTarget, hostAccess, hostProcessor};
 ghost use Rattle.added.specs.Added.{HostAdded};
-ghost use Rattle.words.specs.Lent.{callLent};
-ghost use Rattle.handed.specs.Handed.{HostRan};
+ghost use Rattle.abi_phase.specs.HostCall.{callLent, HostRan};
 ghost use Rattle.marker_lookup.specs.Lookup.{lookup};
 ghost use Rattle.host.specs.Record.{Recorded};
 
@@ -103,7 +102,7 @@ pub extern "C" fn tivembo_run_phase(
         (now (ids .entry)) (now (entries .entry)) (now (journal .entry)) r (now (t .exit)) (now (ids .exit)) (now (entries .exit)) (now (journal .exit)) ⌝ }
 {
     let c = markers::unpack(markers);
-    let p = handed::host_phase(
+    let p = abi_phase::host_phase(
         *t,
         phase,
         mode,

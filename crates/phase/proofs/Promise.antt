@@ -1,5 +1,5 @@
 -- What the phase call promises, from what its parts leave: a refused call, one with nothing to do, and one that was walked.
-use Prim.Native.Nat.{ℕ, suc, _+_, _*_, _/_, _≤_}
+use Prim.Native.Nat.{ℕ, _+_, _*_, _/_, _≤_}
 use mathlib.Core.Path.{_≡_, refl, sym, ap, subst, _∙_}
 use mathlib.Core.Bool.{Bool, true, false, not, cond, _||_}
 use mathlib.Core.List.{List, []}
@@ -28,21 +28,13 @@ use Rattle.members.proofs.WordLaws.{journal-over, data-free-end}
 use Rattle.control.specs.Held.{controlsOf, Became}
 use Rattle.digest.specs.Codes.{codesOf}
 use Rattle.refusals.specs.Lent.{firstOfSeven}
+use Rattle.refusals.proofs.LentLaws.{one-same, one-past}
 use Rattle.phase.specs.declared.Transaction.{Transaction}
 use Rattle.phase.specs.declared.Phase.{Phase}
 use Rattle.phase.specs.Phase.{callOf, outcomeFound, Ran}
 use Rattle.phase.specs.Walked.{fresh, visitsFrom, Ready, Walked}
 
 -- THE FIRST REFUSAL, BY ITS PARTS
-
--- one test of several, whose answer is not 0; and one that does not apply
-one-same : (b : Bool) (n x y : ℕ) → ((y ≡ 0 → ⊥) → x ≡ y) → (cond b n y ≡ 0 → ⊥) → cond b n x ≡ cond b n y
-one-same true n x y f h = refl
-one-same false n x y f h = f h
-
-one-past : (b : Bool) (n x y z : ℕ) → (y ≡ 0 → x ≡ z) → cond b (suc n) y ≡ 0 → cond b (suc n) x ≡ z
-one-past true n x y z f h = absurd (omega arith)
-one-past false n x y z f h = f h
 
 not-false : (b : Bool) → not b ≡ false → b ≡ true
 not-false true e = refl

@@ -74,13 +74,15 @@ module _ (g : Given) where
     markers-are = refl;
     text-is = refl;
     outcomes-are = refl;
-    ranges = ranges-length (g .t .controls);
-    targets = targets-length (g .t .controls);
-    ids-used = refl;
-    entries-used = refl;
-    ids = refl;
-    entries = length-data-list (g .entries);
-    journal = length-journal-list (g .journal);
+    sized = record {
+      ranges = ranges-length (g .t .controls);
+      targets = targets-length (g .t .controls);
+      ids-used = refl;
+      entries-used = refl;
+      ids = refl;
+      entries = length-data-list (g .entries);
+      journal = length-journal-list (g .journal);
+    };
   }
 
   -- that nothing is to do

@@ -1,8 +1,9 @@
 -- What the tests of the lists and sizes that a call lends say of its refusals. Assumes nothing.
-use Prim.Native.Nat.{ℕ, _+_, _/_}
-use mathlib.Core.Path.{_≡_, sym, _∙_}
+use Prim.Native.Nat.{ℕ, suc, _+_, _/_}
+use mathlib.Core.Path.{_≡_, refl, sym, ap, _∙_}
 use mathlib.Core.Bool.{Bool, true, false, cond, _||_}
 use mathlib.Core.List.{List}
+use native.Mathlib.Omega.{arith}
 use borrow.Author.Tests.{eq-eqb, ne-eqb}
 use lib.ListN.{length}
 use lib.Dec.{ltb}
@@ -15,48 +16,60 @@ use Rattle.reading.specs.Refusals.{refused1, refused2, refused3, refused4, refu
 use Rattle.reading.specs.Refusals.{badRule, badAction, badMarker, badOutcome}
 use Rattle.lists.proofs.RecordLaws.{length-actions}
 use Rattle.lists.proofs.RecordLaws.{length-rules, length-markers}
+use Rattle.refusals.specs.declared.Counts.{Counts}
 use Rattle.refusals.specs.declared.Sizes.{Sizes}
-use Rattle.refusals.specs.Lent.{Lent}
+use Rattle.refusals.specs.Lent.{Counted, Lent, firstOfFour, firstOfSeven}
 
--- the answer `t` of a test `b` of what is lent is that of the refusal
-module _ {q : Call} {phase mode : ℕ} {rules actions markers text outcomes : List ℕ} {sizes : Sizes}
-    (l : Lent q phase mode rules actions markers text outcomes sizes) where
+-- the answer `t` of a test `b` of what is counted is that of the refusal
+module _ {q : Call} {phase mode : ℕ} {counts : Counts} {sizes : Sizes} (l : Counted q phase mode counts sizes) where
   pub says-1 : {b t : Bool} → b ≡ (ltb phase 1 || ltb 5 phase || ltb 2 mode) → b ≡ t → refused1 q ≡ t
   unfolding refused1
   says-1 h e = rw (l .phase-is, l .mode-is) (sym h ∙ e)
 
   pub says-2 : {b t : Bool}
-      → b ≡ (ltb 512 (length rules / 5) || ltb 4096 (length actions / 6) || ltb 256 (length markers / 3)
-      || ltb 65536 (length text))
+      → b ≡ (ltb 512 (counts .rules) || ltb 4096 (counts .actions) || ltb 256 (counts .markers) || ltb 65536 (counts .bytes))
       → b ≡ t → refused2 q ≡ t
   unfolding refused2
-  says-2 h e =
-      rw (
-        l .rules-are,
-        l .actions-are,
-        l .markers-are,
-        l .text-is,
-        length-rules rules,
-        length-actions actions,
-        length-markers
-            markers,
-      )
-      (sym h ∙ e)
+  says-2 h e = rw (l .rules, l .actions, l .markers, l .bytes) (sym h ∙ e)
 
   pub says-3 : {b t : Bool}
       → b ≡ ((ltb mostRanges (sizes .ranges) || ltb mostTargets (sizes .targets))
       || ltb (sizes .ids) (sizes .«ids_used») || ltb (sizes .entries) (sizes .«entries_used»))
       → b ≡ t → refused3 q ≡ t
   unfolding refused3 beyondLimits
-  says-3 h e = rw (l .ranges, l .targets, l .ids, l .ids-used, l .entries, l .entries-used) (sym h ∙ e)
+  says-3 h e =
+      let s = l .sized in
+      rw (s .ranges, s .targets, s .ids, s .ids-used, s .entries, s .entries-used) (sym h ∙ e)
 
-  pub differ : (length outcomes ≡ length rules / 5 → ⊥) → refused4 q ≡ true
+  pub differ : (counts .outcomes ≡ counts .rules → ⊥) → refused4 q ≡ true
   unfolding refused4
-  differ h = rw (l .outcomes-are, l .rules-are, length-rules rules, ne-eqb (length outcomes) (length rules / 5) h)
+  differ h = rw (l .outcomes, l .rules, ne-eqb (counts .outcomes) (counts .rules) h)
 
-  pub agree : length outcomes ≡ length rules / 5 → refused4 q ≡ false
+  pub agree : counts .outcomes ≡ counts .rules → refused4 q ≡ false
   unfolding refused4
-  agree h = rw (l .outcomes-are, l .rules-are, length-rules rules, eq-eqb (length outcomes) (length rules / 5) h)
+  agree h = rw (l .outcomes, l .rules, eq-eqb (counts .outcomes) (counts .rules) h)
+
+-- the same of the lists that are lent
+module _ {q : Call} {phase mode : ℕ} {rules actions markers text outcomes : List ℕ} {sizes : Sizes}
+    (l : Lent q phase mode rules actions markers text outcomes sizes) where
+  pub counted : Counted q phase mode
+      (record {
+        rules = length rules / 5;
+        actions = length actions / 6;
+        markers = length markers / 3;
+        bytes = length text;
+        outcomes = length outcomes;
+      }) sizes
+  counted = record {
+    phase-is = l .phase-is;
+    mode-is = l .mode-is;
+    rules = ap length (l .rules-are) ∙ length-rules rules;
+    actions = ap length (l .actions-are) ∙ length-actions actions;
+    markers = ap length (l .markers-are) ∙ length-markers markers;
+    bytes = ap length (l .text-is);
+    outcomes = ap length (l .outcomes-are);
+    sized = l .sized;
+  }
 
   pub says-5 : {b t : Bool}
       → b ≡ (any (badRule (length actions / 6)) (ruleList rules) || any (badAction (length text)) (actionList actions)
@@ -77,7 +90,8 @@ module _ {q : Call} {phase mode : ℕ} {rules actions markers text outcomes : Li
       → b ≡ t → refused7 q ≡ t
   unfolding refused7
   says-7 h e =
-      rw (l .rules-are, length-rules rules, l .ids, l .ids-used, l .entries, l .entries-used, l .journal) (sym h ∙ e)
+      let s = l .sized in
+      rw (l .rules-are, length-rules rules, s .ids, s .ids-used, s .entries, s .entries-used, s .journal) (sym h ∙ e)
 
 -- the first that applies of those from a number on
 abbrev pub firstFrom7 : Call → ℕ
@@ -89,11 +103,24 @@ firstFrom6 q = cond (refused6 q) 6 (firstFrom7 q)
 abbrev pub firstFrom5 : Call → ℕ
 firstFrom5 q = cond (refused5 q) 5 (firstFrom6 q)
 
-abbrev pub firstFrom4 : Call → ℕ
-firstFrom4 q = cond (refused4 q) 4 (firstFrom5 q)
+-- one test of several, whose answer is not 0; and one that does not apply
+pub one-same : (b : Bool) (n x y : ℕ) → ((y ≡ 0 → ⊥) → x ≡ y) → (cond b n y ≡ 0 → ⊥) → cond b n x ≡ cond b n y
+one-same true n x y f h = refl
+one-same false n x y f h = f h
 
-abbrev pub firstFrom3 : Call → ℕ
-firstFrom3 q = cond (refused3 q) 3 (firstFrom4 q)
+pub one-past : (b : Bool) (n x y z : ℕ) → (y ≡ 0 → x ≡ z) → cond b (suc n) y ≡ 0 → cond b (suc n) x ≡ z
+one-past true n x y z f h = absurd (omega arith)
+one-past false n x y z f h = f h
 
-abbrev pub firstFrom2 : Call → ℕ
-firstFrom2 q = cond (refused2 q) 2 (firstFrom3 q)
+module _ (q : Call) where
+  pub four-first : (firstOfFour q ≡ 0 → ⊥) → firstOfSeven q ≡ firstOfFour q
+  unfolding firstOfFour firstOfSeven
+  four-first =
+      one-same (refused1 q) 1 _ _ (one-same (refused2 q) 2 _ _ (one-same (refused3 q) 3 _ _
+      (one-same (refused4 q) 4 (firstFrom5 q) 0 (λ h. absurd (h refl)))))
+
+  pub past-four : firstOfFour q ≡ 0 → firstOfSeven q ≡ firstFrom5 q
+  unfolding firstOfFour firstOfSeven
+  past-four =
+      one-past (refused1 q) 0 _ _ _ (one-past (refused2 q) 1 _ _ _ (one-past (refused3 q) 2 _ _ _
+      (one-past (refused4 q) 3 (firstFrom5 q) 0 (firstFrom5 q) (λ h. refl))))

@@ -9,7 +9,16 @@ ghost use Rattle.reading.specs.Controls.{mostRanges, mostTargets};
 ghost use Rattle.reading.specs.Records.{ruleList, actionList, markerList};
 ghost use Rattle.reading.specs.Refusals.{badRule, badAction, badMarker, badOutcome};
 ghost use Rattle.reading.specs.Call.{Call};
-ghost use Rattle.refusals.specs.Lent.{Lent, firstOfSeven};
+ghost use Rattle.refusals.specs.Lent.{Counted, Lent, firstOfFour, firstOfSeven};
+
+// How many records, text bytes and outcomes a call lends.
+pub struct Counts {
+    pub rules: usize,
+    pub actions: usize,
+    pub markers: usize,
+    pub bytes: usize,
+    pub outcomes: usize,
+}
 
 // What the transaction counts, and how many entries the lists have that are written.
 pub struct Sizes {
@@ -36,19 +45,19 @@ fn is_unknown(phase: u64, mode: u64) -> bool
 }
 
 // Refusal 2: more rules, actions, markers or text bytes than a call may have.
-fn is_too_large(rules: usize, actions: usize, markers: usize, bytes: usize) -> bool
-    ensures { λ r. ⌜ r ≡ (ltb 512 rules || ltb 4096 actions || ltb 256 markers || ltb 65536 bytes) ⌝ }
+fn is_too_large(counts: Counts) -> bool
+    ensures { λ r. ⌜ r ≡ (ltb 512 (counts .rules) || ltb 4096 (counts .actions) || ltb 256 (counts .markers) || ltb 65536 (counts .bytes)) ⌝ }
 {
-    if 512 < rules {
+    if 512 < counts.rules {
         return true;
     }
-    if 4096 < actions {
+    if 4096 < counts.actions {
         return true;
     }
-    if 256 < markers {
+    if 256 < counts.markers {
         return true;
     }
-    65536 < bytes
+    65536 < counts.bytes
 }
 
 // Refusal 3: the transaction counts more than its limits, or more than a lent list has.
@@ -63,6 +72,26 @@ fn is_miscounted(sizes: Sizes) -> bool
         return true;
     }
     sizes.entries < sizes.entries_used
+}
+
+// The number of the first refusal of 1 to 4 that applies, else 0. These look at numbers alone and at no record, so the answer is
+// the same whatever the lists hold.
+pub fn early_refusal(phase: u64, mode: u64, counts: Counts, sizes: Sizes) -> u64
+    ensures { λ r. ⌜ ((q : Call) → Counted q phase mode counts sizes → r ≡ firstOfFour q) ⌝ }
+{
+    if is_unknown(phase, mode) {
+        return 1;
+    }
+    if is_too_large(counts) {
+        return 2;
+    }
+    if is_miscounted(sizes) {
+        return 3;
+    }
+    if counts.outcomes != counts.rules {
+        return 4;
+    }
+    0
 }
 
 // Refusal 5: a record that holds what no record may.
@@ -132,17 +161,16 @@ pub fn first_refusal(
 {
     let n = rules.len() / 5;
     let bytes = text.len();
-    if is_unknown(phase, mode) {
-        return 1;
-    }
-    if is_too_large(n, actions.len() / 6, markers.len() / 3, bytes) {
-        return 2;
-    }
-    if is_miscounted(sizes) {
-        return 3;
-    }
-    if outcomes.len() != n {
-        return 4;
+    let counts = Counts {
+        rules: n,
+        actions: actions.len() / 6,
+        markers: markers.len() / 3,
+        bytes,
+        outcomes: outcomes.len(),
+    };
+    let early = early_refusal(phase, mode, counts, sizes);
+    if early != 0 {
+        return early;
     }
     if has_bad_record(rules, actions, markers, bytes, outcomes) {
         return 5;

@@ -42,17 +42,16 @@ use denote.Triple.Walked.{says, Stays, stay-ref, stay-dropped, gave-slice, walkO
 use denote.Exit.{yes}
 use denote.Signature.{plain, shrSliceOf}
 use Rattle.markers.specs.Unpacked.{unpackedOf}
-use Rattle.records.specs.Whole.{fromHost}
+use Rattle.abi_phase.specs.HostRecord.{fromHost}
 use Rattle.phase.specs.Phase.{callOf}
-use Rattle.words.specs.Lent.{lentPart}
-use Rattle.handed.specs.Handed.{HostRan}
-use Rattle.handed.proofs.Handing.{host-lent}
-use Rattle.records.specs.declared.HostTransaction.{HostTransaction}
-use Rattle.handed.specs.declared.HostHanded.{HostHanded}
-use Rattle.records.proofs.HostTransaction as T
-use Rattle.records.proofs.HostTransaction.Laws as T′
-use Rattle.handed.proofs.HostHanded as P
-use Rattle.handed.proofs.HostHanded.Laws as P′
+use Rattle.abi_phase.specs.HostCall.{lentPart, HostRan}
+use Rattle.abi_phase.proofs.HostLaws.{host-lent}
+use Rattle.abi_phase.specs.declared.HostTransaction.{HostTransaction}
+use Rattle.abi_phase.specs.declared.HostPhase.{HostPhase}
+use Rattle.abi_phase.proofs.HostTransaction as T
+use Rattle.abi_phase.proofs.HostTransaction.Laws as T′
+use Rattle.abi_phase.proofs.HostPhase as P
+use Rattle.abi_phase.proofs.HostPhase.Laws as P′
 use Rattle.phase.proofs.Answer as Q
 use Rattle.phase.proofs.Answer.Laws as Q′
 use Rattle.reading.specs.declared.Marker.{Marker}
@@ -60,10 +59,10 @@ use Rattle.markers.specs.declared.Unpacked.{Unpacked}
 use Rattle.reading.proofs.Marker as R-Marker
 use Rattle.markers.proofs.Unpacked as C-Unpacked
 use Rattle.markers.proofs.Unpacked.Laws as C′-Unpacked
-use Rattle.handed.proofs.host_phase as host-phase-fn
-use Rattle.handed.proofs.host_phase.Symbol as host-phase-def
-use Rattle.handed.proofs.host_phase.Symbol.{name as #handed·host-phase}
-use Rattle.handed.proofs.host_phase.Met as host-phase-thm
+use Rattle.abi_phase.proofs.host_phase as host-phase-fn
+use Rattle.abi_phase.proofs.host_phase.Symbol as host-phase-def
+use Rattle.abi_phase.proofs.host_phase.Symbol.{name as #abi-phase·host-phase}
+use Rattle.abi_phase.proofs.host_phase.Met as host-phase-thm
 use Rattle.markers.proofs.unpack as unpack-fn
 use Rattle.markers.proofs.unpack.Symbol as unpack-def
 use Rattle.markers.proofs.unpack.Symbol.{name as #markers·unpack}
@@ -95,7 +94,7 @@ freed 𝓤 H A W Δ h =
 abbrev mach : HostTransaction → Val
 mach = LL.val T.the-type T′.the-laws
 
-abbrev back : HostHanded → Val
+abbrev back : HostPhase → Val
 back = LL.val P.the-type P′.the-laws
 
 module _ {M : Type 1} (𝓤 : URA M) (H : Heap 𝓤) (A : Atoms 𝓤) (W : Given 𝓤 H A) (at-mem : Memory → SProp 𝓤) (run : Routine → Fun 𝓤) (κ0 κ1 κ2 κ3 κ4 κ5 κ6 κ7 κ8 : Lft) (q0 q1 q2 q3 q4 q5 q6 q7 q8 : Share) (b o : ℕ) (γ : GName) (h : HostTransaction) (phase : ℕ) (mode : ℕ) (status : ℕ) (x-rules : RefT (List ℕ)) (x-actions : RefT (List ℕ)) (x-markers : RefT (List Marker)) (x-text : RefT (List ℕ)) (x-outcomes : RefT (List ℕ)) (x-ids : RefT (List ℕ)) (x-entries : RefT (List ℕ)) (x-journal : RefT (List ℕ)) where
@@ -136,7 +135,7 @@ module _ {M : Type 1} (𝓤 : URA M) (H : Heap 𝓤) (A : Atoms 𝓤) (W : Given
   Post = walkOf 𝓤 H A tivembo-run-phase-fn.ended stayed (tivembo-run-phase-fn.clauses 𝓤 H A at-mem run) .post (((κ0, (κ1, (κ2, (κ3, (κ4, (κ5, (κ6, (κ7, (κ8, tt))))))))), (q0, (q1, (q2, (q3, (q4, (q5, (q6, (q7, (q8, tt))))))))), tt, a, vals), tt)
 
   -- what `host_phase` says of its result r and of the last lists
-  abbrev Said : Unpacked → HostHanded → List ℕ → List ℕ → List ℕ → Type 0
+  abbrev Said : Unpacked → HostPhase → List ℕ → List ℕ → List ℕ → Type 0
   Said c-markers r zs-ids zs-entries zs-journal = HostRan h (callOf phase mode status (x-rules .now) (x-actions .now) (lentPart c-markers) (x-text .now) (x-outcomes .now) (fromHost h) (x-ids .now) (x-entries .now) (x-journal .now)) (x-ids .now) (x-entries .now) (x-journal .now) (r .answer) (r .transaction) zs-ids zs-entries zs-journal
 
   -- what `host_phase` is passed
@@ -163,7 +162,7 @@ module _ {M : Type 1} (𝓤 : URA M) (H : Heap 𝓤) (A : Atoms 𝓤) (W : Given
   made-markers : (c : Unpacked) → ent 𝓤 (ensured 𝓤 H A unpack-fn.ended (unpack-fn.clauses 𝓤 H A at-mem run) (κ3, tt) (x-markers, tt) tt c) (fact 𝓤 (c ≡ unpackedOf (x-markers .now)))
   made-markers c = exE 𝓤 _ (λ ws. snd∗ 𝓤 (sem 𝓤 H A (lasts unpack-fn.ended (κ3, tt) (x-markers, tt) ws)) (fact 𝓤 (c ≡ unpackedOf (x-markers .now))))
 
-  exits : (r : HostHanded) (zs-ids : List ℕ) (zs-entries : List ℕ) (zs-journal : List ℕ) → Is P.the-row r (back r ∷ []) → Said (unpackedOf (x-markers .now)) r zs-ids zs-entries zs-journal → length zs-ids ≡ length (x-ids .now) → length zs-entries ≡ length (x-entries .now) → length zs-journal ≡ length (x-journal .now)
+  exits : (r : HostPhase) (zs-ids : List ℕ) (zs-entries : List ℕ) (zs-journal : List ℕ) → Is P.the-row r (back r ∷ []) → Said (unpackedOf (x-markers .now)) r zs-ids zs-entries zs-journal → length zs-ids ≡ length (x-ids .now) → length zs-entries ≡ length (x-entries .now) → length zs-journal ≡ length (x-journal .now)
       → ent 𝓤 (⋆ 𝓤 H A (‵ (fobs γ (T.the-row .coded .code (r .transaction))) ∷ ‵ (fbor κ0 (Body (mem T.the-row) b o γ)) ∷ (‵ (flft κ0 q0) ⊛ ‵ (flft κ1 q1) ⊛ ‵ (flft κ2 q2) ⊛ ‵ (flft κ3 q3) ⊛ ‵ (flft κ4 q4) ⊛ ‵ (flft κ5 q5) ⊛ ‵ (flft κ6 q6) ⊛ ‵ (flft κ7 q7) ⊛ ‵ (flft κ8 q8) ⊛ ‵ ftrue) ∷ ‵ (finally u64 (x-ids .name) zs-ids) ∷ ‵ (finally u64 (x-entries .name) zs-entries) ∷ ‵ (finally u64 (x-journal .name) zs-journal) ∷ [])) (Post (LL.val Q.the-type Q′.the-laws (r .answer)))
   exits r zs-ids zs-entries zs-journal is e l-ids l-entries l-journal =
       qed W (‵ (fobs γ (T.the-row .coded .code (r .transaction))) ∷ ‵ (fbor κ0 (Body (mem T.the-row) b o γ)) ∷ (‵ (flft κ0 q0) ⊛ ‵ (flft κ1 q1) ⊛ ‵ (flft κ2 q2) ⊛ ‵ (flft κ3 q3) ⊛ ‵ (flft κ4 q4) ⊛ ‵ (flft κ5 q5) ⊛ ‵ (flft κ6 q6) ⊛ ‵ (flft κ7 q7) ⊛ ‵ (flft κ8 q8) ⊛ ‵ ftrue) ∷ ‵ (finally u64 (x-ids .name) zs-ids) ∷ ‵ (finally u64 (x-entries .name) zs-entries) ∷ ‵ (finally u64 (x-journal .name) zs-journal) ∷ []) ∵
@@ -172,7 +171,7 @@ module _ {M : Type 1} (𝓤 : URA M) (H : Heap 𝓤) (A : Atoms 𝓤) (W : Given
       move ! (2 ∷ []) $ frame ! $ nothing ! $ move ! (5 ∷ 0 ∷ []) $ fjoin ! $ move ! (4 ∷ 0 ∷ []) $ fjoin ! $ move ! (3 ∷ 0 ∷ []) $ fjoin ! $ nothing ! $ fjoin ! $ nothing ! $ fjoin ! $ nothing ! $ fjoin ! $ nothing ! $ fjoin ! $ nothing ! $ fjoin ! $ nothing ! $ fjoin ! $ nothing ! $ fjoin ! $ nothing ! $ fjoin ! $ move ! (1 ∷ 2 ∷ []) $ feqI ! (List Val) (vptr b o ∷ []) (vptr b o ∷ []) refl $ fjoin3 ! $ fjoin ! $ owned ! Q.the-row (Is Q.the-row) (LL.makes Q.the-type Q′.the-plain 𝓤 H A) (r .answer) _ (LL.owed P.the-type P′.the-laws r _ is .0) $ move ! (1 ∷ 0 ∷ []) $ done !
 
   -- from where the result has landed: the transaction is stored, and the borrow is closed. The types of the other locals do not matter
-  stored : (C : Calls 𝓤 H) (Λ : Loops 𝓤 H) {τ1 τ2 τ3 τ4 τ5 τ6 τ7 τ8 τ9 τ10 τ11 τ12 τ13 τ15 τ16 τ17 τ18 τ19 τ20 τ21 : Ty} {l0 l1 l2 l3 l4 l5 l6 l7 l8 l9 l10 l11 l12 l13 l14 l15 l16 l17 l18 l19 l20 l21 : ℕ} {v2 v3 v4 v5 v6 v7 v8 v9 v10 v11 v12 v13 v15 v16 v17 v18 v19 v20 v21 : Val} (r : HostHanded) (zs-ids : List ℕ) (zs-entries : List ℕ) (zs-journal : List ℕ) → Is P.the-row r (back r ∷ []) → Said (unpackedOf (x-markers .now)) r zs-ids zs-entries zs-journal → length zs-ids ≡ length (x-ids .now) → length zs-entries ≡ length (x-entries .now) → length zs-journal ≡ length (x-journal .now)
+  stored : (C : Calls 𝓤 H) (Λ : Loops 𝓤 H) {τ1 τ2 τ3 τ4 τ5 τ6 τ7 τ8 τ9 τ10 τ11 τ12 τ13 τ15 τ16 τ17 τ18 τ19 τ20 τ21 : Ty} {l0 l1 l2 l3 l4 l5 l6 l7 l8 l9 l10 l11 l12 l13 l14 l15 l16 l17 l18 l19 l20 l21 : ℕ} {v2 v3 v4 v5 v6 v7 v8 v9 v10 v11 v12 v13 v15 v16 v17 v18 v19 v20 v21 : Val} (r : HostPhase) (zs-ids : List ℕ) (zs-entries : List ℕ) (zs-journal : List ℕ) → Is P.the-row r (back r ∷ []) → Said (unpackedOf (x-markers .now)) r zs-ids zs-entries zs-journal → length zs-ids ≡ length (x-ids .now) → length zs-entries ≡ length (x-entries .now) → length zs-journal ≡ length (x-journal .now)
       → Sq W (‵ (cellAt fullShare (T.the-row .mir) (mach h ∷ []) b o) ∷ ‵ (fobor κ0 q0 (Body (mem T.the-row) b o γ)) ∷ ‵ (fobs γ (T.the-row .coded .code h)) ∷ ‵ (fauth γ (T.the-row .coded .code h)) ∷ ‵ (flft κ1 q1) ∷ ‵ (flft κ2 q2) ∷ ‵ (flft κ3 q3) ∷ ‵ (flft κ4 q4) ∷ ‵ (flft κ5 q5) ∷ ‵ (flft κ6 q6) ∷ ‵ (flft κ7 q7) ∷ ‵ (flft κ8 q8) ∷ ‵ (finally u64 (x-ids .name) zs-ids) ∷ ‵ (finally u64 (x-entries .name) zs-entries) ∷ ‵ (finally u64 (x-journal .name) zs-journal) ∷ ‵ (fat fullShare (τ21) l21 0 (v21)) ∷ ‵ (fdies (τ21) l21) ∷ ‵ (fat fullShare (τ20) l20 0 (v20)) ∷ ‵ (fdies (τ20) l20) ∷ ‵ (fat fullShare (τ19) l19 0 (v19)) ∷ ‵ (fdies (τ19) l19) ∷ ‵ (fat fullShare (τ18) l18 0 (v18)) ∷ ‵ (fdies (τ18) l18) ∷ ‵ (fat fullShare (τ17) l17 0 (v17)) ∷ ‵ (fdies (τ17) l17) ∷ ‵ (fat fullShare (τ16) l16 0 (v16)) ∷ ‵ (fdies (τ16) l16) ∷ ‵ (fat fullShare (τ15) l15 0 (v15)) ∷ ‵ (fdies (τ15) l15) ∷ ‵ (fat fullShare (lone (P.the-row .mir)) l14 0 (back r)) ∷ ‵ (fdies (lone (P.the-row .mir)) l14) ∷ ‵ (fat fullShare (τ13) l13 0 (v13)) ∷ ‵ (fdies (τ13) l13) ∷ ‵ (fat fullShare (τ12) l12 0 (v12)) ∷ ‵ (fdies (τ12) l12) ∷ ‵ (fat fullShare (τ11) l11 0 (v11)) ∷ ‵ (fdies (τ11) l11) ∷ ‵ (fat fullShare (τ10) l10 0 (v10)) ∷ ‵ (fdies (τ10) l10) ∷ ‵ (fat fullShare (τ9) l9 0 (v9)) ∷ ‵ (fdies (τ9) l9) ∷ ‵ (fat fullShare (τ8) l8 0 (v8)) ∷ ‵ (fdies (τ8) l8) ∷ ‵ (fat fullShare (τ7) l7 0 (v7)) ∷ ‵ (fdies (τ7) l7) ∷ ‵ (fat fullShare (τ6) l6 0 (v6)) ∷ ‵ (fdies (τ6) l6) ∷ ‵ (fat fullShare (τ5) l5 0 (v5)) ∷ ‵ (fdies (τ5) l5) ∷ ‵ (fat fullShare (τ4) l4 0 (v4)) ∷ ‵ (fdies (τ4) l4) ∷ ‵ (fat fullShare (τ3) l3 0 (v3)) ∷ ‵ (fdies (τ3) l3) ∷ ‵ (fat fullShare (τ2) l2 0 (v2)) ∷ ‵ (fdies (τ2) l2) ∷ ‵ (fat fullShare (τ1) l1 0 (vptr b o)) ∷ ‵ (fdies (τ1) l1) ∷ ‵ (froom (lone (Q.the-row .mir)) l0 0) ∷ ‵ (fdies (lone (Q.the-row .mir)) l0) ∷ [])
       (runs C Λ ((lone (Q.the-row .mir), l0) ∷ (τ1, l1) ∷ (τ2, l2) ∷ (τ3, l3) ∷ (τ4, l4) ∷ (τ5, l5) ∷ (τ6, l6) ∷ (τ7, l7) ∷ (τ8, l8) ∷ (τ9, l9) ∷ (τ10, l10) ∷ (τ11, l11) ∷ (τ12, l12) ∷ (τ13, l13) ∷ (lone (P.the-row .mir), l14) ∷ (τ15, l15) ∷ (τ16, l16) ∷ (τ17, l17) ∷ (τ18, l18) ∷ (τ19, l19) ∷ (τ20, l20) ∷ (τ21, l21) ∷ []) code-mir.t-10 (atRet ((lone (Q.the-row .mir), l0) ∷ (τ1, l1) ∷ (τ2, l2) ∷ (τ3, l3) ∷ (τ4, l4) ∷ (τ5, l5) ∷ (τ6, l6) ∷ (τ7, l7) ∷ (τ8, l8) ∷ (τ9, l9) ∷ (τ10, l10) ∷ (τ11, l11) ∷ (τ12, l12) ∷ (τ13, l13) ∷ (lone (P.the-row .mir), l14) ∷ (τ15, l15) ∷ (τ16, l16) ∷ (τ17, l17) ∷ (τ18, l18) ∷ (τ19, l19) ∷ (τ20, l20) ∷ (τ21, l21) ∷ []) Post))
   stored C Λ {l0 = l0} r zs-ids zs-entries zs-journal is e l-ids l-entries l-journal =
@@ -184,7 +183,7 @@ module _ {M : Type 1} (𝓤 : URA M) (H : Heap 𝓤) (A : Atoms 𝓤) (W : Given
       keep ! (6 ∷ 7 ∷ 8 ∷ 9 ∷ 10 ∷ 11 ∷ 12 ∷ 13 ∷ 14 ∷ 15 ∷ 16 ∷ 17 ∷ 18 ∷ 19 ∷ 20 ∷ 21 ∷ 22 ∷ 23 ∷ 24 ∷ 25 ∷ 26 ∷ 27 ∷ 28 ∷ 29 ∷ 30 ∷ 31 ∷ 32 ∷ 33 ∷ 34 ∷ 35 ∷ 36 ∷ 37 ∷ 38 ∷ 39 ∷ 40 ∷ 41 ∷ 42 ∷ 43 ∷ 44 ∷ 45 ∷ 46 ∷ 47 ∷ 48 ∷ 49 ∷ 1 ∷ 2 ∷ 0 ∷ 3 ∷ 4 ∷ 5 ∷ []) $
       freed 𝓤 H A W _ (exits r zs-ids zs-entries zs-journal is e l-ids l-entries l-journal)
 
-  module _ (C : Calls 𝓤 H) (Λ : Loops 𝓤 H) (fm : FmC 𝓤 H (W .laws) C) (known-host-phase : Triple 𝓤 (C #handed·host-phase) (HostPhaseT 𝓤 H A at-mem run)) (known-unpack : Triple 𝓤 (C #markers·unpack) (UnpackT 𝓤 H A at-mem run)) where
+  module _ (C : Calls 𝓤 H) (Λ : Loops 𝓤 H) (fm : FmC 𝓤 H (W .laws) C) (known-host-phase : Triple 𝓤 (C #abi-phase·host-phase) (HostPhaseT 𝓤 H A at-mem run)) (known-unpack : Triple 𝓤 (C #markers·unpack) (UnpackT 𝓤 H A at-mem run)) where
     walk : phase < 2 ^ 64 → mode < 2 ^ 64 → status < 2 ^ 64 → Room u64 (length (x-rules .now)) → Room u64 (length (x-actions .now)) → Room R-Marker.the-row (length (x-markers .now)) → Room u8 (length (x-text .now)) → Room u8 (length (x-outcomes .now)) → Room u64 (length (x-ids .now)) → Room u64 (length (x-entries .now)) → Room u64 (length (x-journal .now)) → ent 𝓤 (onEntry 𝓤 H A tivembo-run-phase-fn.signature (κ0, (κ1, (κ2, (κ3, (κ4, (κ5, (κ6, (κ7, (κ8, tt))))))))) (q0, (q1, (q2, (q3, (q4, (q5, (q6, (q7, (q8, tt))))))))) a vals) (WpFn 𝓤 H C Λ code.function (vptr b o ∷ vint w64 phase ∷ vint w64 mode ∷ vint w64 status ∷ s-rules ∷ s-actions ∷ s-markers ∷ s-text ∷ s-outcomes ∷ s-ids ∷ s-entries ∷ s-journal ∷ []) Post)
     walk fits-phase fits-mode fits-status room-rules room-actions room-markers room-text room-outcomes room-ids room-entries room-journal =
         qed W ((‵ (flft κ0 q0) ⊛ ‵ (flft κ1 q1) ⊛ ‵ (flft κ2 q2) ⊛ ‵ (flft κ3 q3) ⊛ ‵ (flft κ4 q4) ⊛ ‵ (flft κ5 q5) ⊛ ‵ (flft κ6 q6) ⊛ ‵ (flft κ7 q7) ⊛ ‵ (flft κ8 q8) ⊛ ‵ ftrue) ∷ ‵ (owns (MutRef (named 0) κ0 T.the-row ∷ u64 ∷ u64 ∷ u64 ∷ ShrSlice (named 1) κ1 u64 ∷ ShrSlice (named 2) κ2 u64 ∷ ShrSlice (named 3) κ3 R-Marker.the-row ∷ ShrSlice (named 4) κ4 u8 ∷ ShrSlice (named 5) κ5 u8 ∷ MutSlice (named 6) κ6 u64 ∷ MutSlice (named 7) κ7 u64 ∷ MutSlice (named 8) κ8 u64 ∷ []) a vals) ∷ []) ∵ enter ! C Λ code.function (vptr b o ∷ vint w64 phase ∷ vint w64 mode ∷ vint w64 status ∷ s-rules ∷ s-actions ∷ s-markers ∷ s-text ∷ s-outcomes ∷ s-ids ∷ s-entries ∷ s-journal ∷ []) _ $
@@ -213,7 +212,7 @@ module _ {M : Type 1} (𝓤 : URA M) (H : Heap 𝓤) (A : Atoms 𝓤) (W : Given
         nothing ! $ move ! (15 ∷ 0 ∷ []) $ fjoin ! $ move ! (15 ∷ 0 ∷ []) $ fjoin ! $ move ! (15 ∷ 0 ∷ []) $ fjoin ! $ move ! (15 ∷ 0 ∷ []) $ fjoin ! $ move ! (15 ∷ 0 ∷ []) $ fjoin ! $ move ! (1 ∷ 0 ∷ []) $ fjoin ! $ move ! (14 ∷ 0 ∷ []) $ fjoin ! $ move ! (14 ∷ 0 ∷ []) $ fjoin ! $ move ! (14 ∷ 0 ∷ []) $ fjoin ! $ move ! (14 ∷ 0 ∷ []) $ fjoin ! $ move ! (14 ∷ 0 ∷ []) $ fjoin ! $ nothing ! $ move ! (8 ∷ 0 ∷ []) $ join ! $ move ! (8 ∷ 0 ∷ []) $ join ! $ move ! (8 ∷ 0 ∷ []) $ join ! $ move ! (8 ∷ 0 ∷ []) $ join ! $ move ! (8 ∷ 0 ∷ []) $ join ! $ move ! (8 ∷ 0 ∷ []) $ join ! $ move ! (8 ∷ 0 ∷ []) $ join ! $
         use2 W (raw (HostPhaseT 𝓤 H A at-mem run .pre (to c-markers w-markers))) (goes c-markers w-markers was) $
         calls-at ! fm (HostPhaseT 𝓤 H A at-mem run) known-host-phase (to c-markers w-markers) (and-then ! (load ! (from ! (stop !)) (look ! 19 refl)) (and-then ! (load ! (from ! (stop !)) (look ! 45 refl)) (and-then ! (load ! (from ! (stop !)) (look ! 43 refl)) (and-then ! (load ! (from ! (stop !)) (look ! 41 refl)) (and-then ! (load ! (from ! (stop !)) (look ! 39 refl)) (and-then ! (load ! (from ! (stop !)) (look ! 37 refl)) (and-then ! (load ! (from ! (stop !)) (look ! 23 refl)) (and-then ! (load ! (from ! (stop !)) (look ! 33 refl)) (and-then ! (load ! (from ! (stop !)) (look ! 31 refl)) (and-then ! (load ! (from ! (stop !)) (look ! 15 refl)) (and-then ! (load ! (from ! (stop !)) (look ! 11 refl)) (and-then ! (load ! (from ! (stop !)) (look ! 7 refl)) (no-more !))))))))))))) (λ w.
-        use1 W (later (some (λ (r : HostHanded). ((‵ (flft κ1 q1) ⊛ ‵ (flft κ2 q2) ⊛ ‵ (flft κ4 q4) ⊛ ‵ (flft κ5 q5) ⊛ ‵ (flft κ6 q6) ⊛ ‵ (flft κ7 q7) ⊛ ‵ (flft κ8 q8) ⊛ ‵ ftrue) ⊛ ‵ (P.the-row .own r (w ∷ []))) ⊛ raw (ensured 𝓤 H A host-phase-fn.ended (host-phase-fn.clauses 𝓤 H A at-mem run) (κ1, (κ2, (κ4, (κ5, (κ6, (κ7, (κ8, tt))))))) (pa c-markers) tt r)))) (id⊢ 𝓤 _) $ await ! tt $ pick ! (λ r.
+        use1 W (later (some (λ (r : HostPhase). ((‵ (flft κ1 q1) ⊛ ‵ (flft κ2 q2) ⊛ ‵ (flft κ4 q4) ⊛ ‵ (flft κ5 q5) ⊛ ‵ (flft κ6 q6) ⊛ ‵ (flft κ7 q7) ⊛ ‵ (flft κ8 q8) ⊛ ‵ ftrue) ⊛ ‵ (P.the-row .own r (w ∷ []))) ⊛ raw (ensured 𝓤 H A host-phase-fn.ended (host-phase-fn.clauses 𝓤 H A at-mem run) (κ1, (κ2, (κ4, (κ5, (κ6, (κ7, (κ8, tt))))))) (pa c-markers) tt r)))) (id⊢ 𝓤 _) $ await ! tt $ pick ! (λ r.
         split ! $ move ! (1 ∷ []) $ use1 W (some (λ (zs : Unit {0} × (Unit {0} × (Unit {0} × (Unit {0} × (Unit {0} × (Unit {0} × (Unit {0} × (Unit {0} × (Unit {0} × (List ℕ × (List ℕ × (List ℕ × (Unit {0}))))))))))))). ‵ (lasts host-phase-fn.ended (κ1, (κ2, (κ4, (κ5, (κ6, (κ7, (κ8, tt))))))) (pa c-markers) zs) ⊛ raw (fact 𝓤 (Said c-markers r (zs .1 .1 .1 .1 .1 .1 .1 .1 .1 .0) (zs .1 .1 .1 .1 .1 .1 .1 .1 .1 .1 .0) (zs .1 .1 .1 .1 .1 .1 .1 .1 .1 .1 .1 .0))))) (id⊢ 𝓤 _) $ pick ! (λ zs.
         split ! $ move ! (1 ∷ []) $ heard ! (Said c-markers r (zs .1 .1 .1 .1 .1 .1 .1 .1 .1 .0) (zs .1 .1 .1 .1 .1 .1 .1 .1 .1 .1 .0) (zs .1 .1 .1 .1 .1 .1 .1 .1 .1 .1 .1 .0)) (λ e. fsplit ! $ drop ! $ fsplit ! $ drop ! $ fsplit ! $ drop ! $ fsplit ! $ drop ! $ fsplit ! $ drop ! $ fsplit ! $ drop ! $ fsplit ! $ drop ! $ fsplit ! $ drop ! $ fsplit ! $ drop ! $ fsplit ! $ fsplit ! $ move ! (1 ∷ []) $ feqL ! (λ l-ids. move ! (1 ∷ []) $ fsplit ! $ fsplit ! $ move ! (1 ∷ []) $ feqL ! (λ l-entries. move ! (1 ∷ []) $ fsplit ! $ fsplit ! $ move ! (1 ∷ []) $ feqL ! (λ l-journal. move ! (1 ∷ []) $ drop ! $
         move ! (3 ∷ []) $ split ! $ split ! $ move ! (1 ∷ []) $ split ! $ move ! (1 ∷ []) $ split ! $ move ! (1 ∷ []) $ split ! $ move ! (1 ∷ []) $ split ! $ move ! (1 ∷ []) $ split ! $ move ! (1 ∷ []) $ split ! $ move ! (1 ∷ []) $ drop ! $
@@ -223,7 +222,7 @@ module _ {M : Type 1} (𝓤 : URA M) (H : Heap 𝓤) (A : Atoms 𝓤) (W : Given
         keep ! (13 ∷ 14 ∷ 15 ∷ 16 ∷ 7 ∷ 6 ∷ 11 ∷ 5 ∷ 4 ∷ 3 ∷ 2 ∷ 1 ∷ 10 ∷ 9 ∷ 8 ∷ 17 ∷ 18 ∷ 19 ∷ 20 ∷ 21 ∷ 22 ∷ 23 ∷ 24 ∷ 25 ∷ 26 ∷ 27 ∷ 28 ∷ 29 ∷ 30 ∷ 31 ∷ 32 ∷ 33 ∷ 34 ∷ 35 ∷ 36 ∷ 37 ∷ 38 ∷ 39 ∷ 40 ∷ 41 ∷ 42 ∷ 43 ∷ 44 ∷ 45 ∷ 46 ∷ 47 ∷ 48 ∷ 49 ∷ 50 ∷ 51 ∷ 52 ∷ 53 ∷ 54 ∷ 55 ∷ 56 ∷ 57 ∷ 58 ∷ 59 ∷ 60 ∷ []) $
         stored C Λ r (zs .1 .1 .1 .1 .1 .1 .1 .1 .1 .0) (zs .1 .1 .1 .1 .1 .1 .1 .1 .1 .1 .0) (zs .1 .1 .1 .1 .1 .1 .1 .1 .1 .1 .1 .0) (LL.owes P.the-type P′.the-laws r (LL.owed P.the-type P′.the-laws r _ is)) (subst (λ (z : Unpacked). Said z r (zs .1 .1 .1 .1 .1 .1 .1 .1 .1 .0) (zs .1 .1 .1 .1 .1 .1 .1 .1 .1 .1 .0) (zs .1 .1 .1 .1 .1 .1 .1 .1 .1 .1 .1 .0)) e-markers e) l-ids l-entries l-journal))))))))))))))))))))))))))))))))))))
 
-module _ {M : Type 1} (𝓤 : URA M) (H : Heap 𝓤) (A : Atoms 𝓤) (W : Given 𝓤 H A) (mem : Memory → SProp 𝓤) (run : Routine → Fun 𝓤) (𝓣 : Tables 𝓤 H) (known-host-phase : Triple 𝓤 (𝓣 .C #handed·host-phase) (HostPhaseT 𝓤 H A mem run)) (known-unpack : Triple 𝓤 (𝓣 .C #markers·unpack) (UnpackT 𝓤 H A mem run)) where
+module _ {M : Type 1} (𝓤 : URA M) (H : Heap 𝓤) (A : Atoms 𝓤) (W : Given 𝓤 H A) (mem : Memory → SProp 𝓤) (run : Routine → Fun 𝓤) (𝓣 : Tables 𝓤 H) (known-host-phase : Triple 𝓤 (𝓣 .C #abi-phase·host-phase) (HostPhaseT 𝓤 H A mem run)) (known-unpack : Triple 𝓤 (𝓣 .C #markers·unpack) (UnpackT 𝓤 H A mem run)) where
   tivembo-run-phase-fn-walks : Walks 𝓤 H A tivembo-run-phase-fn.ended stayed (WpFn 𝓤 H (𝓣 .C) (𝓣 .Λ) code.function) (tivembo-run-phase-fn.clauses 𝓤 H A mem run)
   tivembo-run-phase-fn-walks = walked 𝓤 H A tivembo-run-phase-fn.ended stayed (tivembo-run-phase-fn.clauses 𝓤 H A mem run) (WpFn 𝓤 H (𝓣 .C) (𝓣 .Λ) code.function)
       (λ κs. (ptr-vals, (uint-vals w64, (uint-vals w64, (uint-vals w64, (slice-vals, (slice-vals, (slice-vals, (slice-vals, (slice-vals, (slice-vals, (slice-vals, (slice-vals, tt)))))))))))))
@@ -243,5 +242,5 @@ tivembo-run-phase-spec 𝓤 H 𝓜 𝓖 𝓡 =
     entered 𝓤 H (tripleOf 𝓤 H (𝓖 .A) tivembo-run-phase-fn.signature (tivembo-run-phase-fn.spec 𝓤 H (𝓖 .A) (𝓜 .mem) (𝓡 .run)))
     (tables 𝓤 H 𝓜 𝓡 code.env .C) (tables 𝓤 H 𝓜 𝓡 code.env .Λ) #host·tivembo-run-phase code.function (code.unfolded 𝓤 H 𝓜 𝓡)
     (tivembo-run-phase-fn-meets 𝓤 H (𝓖 .A) (givenOf 𝓤 H 𝓜 𝓖) (𝓜 .mem) (𝓡 .run) (tablesOf 𝓤 H 𝓜 (tables 𝓤 H 𝓜 𝓡 code.env))
-    (cited 𝓤 H (HostPhaseT 𝓤 H (𝓖 .A) (𝓜 .mem) (𝓡 .run)) 𝓜 𝓡 code.env #handed·host-phase host-phase-def.routine code.calls-handed·host-phase (host-phase-thm.met 𝓤 H 𝓜 𝓖 𝓡))
+    (cited 𝓤 H (HostPhaseT 𝓤 H (𝓖 .A) (𝓜 .mem) (𝓡 .run)) 𝓜 𝓡 code.env #abi-phase·host-phase host-phase-def.routine code.calls-abi-phase·host-phase (host-phase-thm.met 𝓤 H 𝓜 𝓖 𝓡))
     (cited 𝓤 H (UnpackT 𝓤 H (𝓖 .A) (𝓜 .mem) (𝓡 .run)) 𝓜 𝓡 code.env #markers·unpack unpack-def.routine code.calls-markers·unpack (unpack-thm.met 𝓤 H 𝓜 𝓖 𝓡)))

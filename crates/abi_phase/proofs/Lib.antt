@@ -1,0 +1,3 @@
+pub mod LentMarkers
+pub mod RoundTrip
+pub mod HostLaws

@@ -1,0 +1,2 @@
+pub mod HostRecord
+pub mod HostCall
