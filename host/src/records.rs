@@ -1,4 +1,4 @@
-//! The records that are lent: `#[repr(C)]` structs of 64-bit numbers, as [crates/records](../../crates/records/src/lib.rt),
+//! The records that are lent: `#[repr(C)]` structs of 64-bit numbers, as [crates/abi_phase](../../crates/abi_phase/src/lib.rt),
 //! the crates of its parts and crates/reading declare them. A record may hold any numbers at all; a call refuses what 01 does
 //! not know.
 

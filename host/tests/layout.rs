@@ -1,8 +1,8 @@
 //! The records have the layout of the Rattle side.
 //!
-//! Sizes and offsets are compared with the order that crates/records and crates/reading declare, written down here once
-//! more. The calls then show that the library agrees: every number of a transaction is written or read by a call, with
-//! values that all differ, so that two exchanged fields, or one at another offset, would be seen.
+//! Sizes and offsets are compared with the order that crates/abi_phase, the crates of its parts and crates/reading declare,
+//! written down here once more. The calls then show that the library agrees: every number of a transaction is written or
+//! read by a call, with values that all differ, so that two exchanged fields, or one at another offset, would be seen.
 
 use std::mem::{offset_of, size_of};
 

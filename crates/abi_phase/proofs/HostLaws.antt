@@ -15,14 +15,14 @@ use Rattle.reading.specs.Call as reading
 use Rattle.reading.specs.Refusals.{refused1, refused2, refused3, refused4}
 use Rattle.reading.specs.Walk.{Visit}
 use Rattle.reading.specs.Outcome.{Outcome, visitsOf, outcomeOf, transactionAfter}
-use Rattle.lists.proofs.RecordLaws.{length-rules, length-actions, length-markers}
+use Rattle.lists.proofs.RecordLaws.{length-markers}
 use Rattle.lists.proofs.Tests.{or-false-is}
 use Rattle.control.specs.Held.{Became}
-use Rattle.control.proofs.HeldLaws.{ranges-length, targets-length}
 use Rattle.control_laws.proofs.Determined.{SameSizes, determined}
 use Rattle.refusals.specs.declared.Counts.{Counts}
 use Rattle.refusals.specs.declared.Sizes.{Sizes}
 use Rattle.refusals.specs.Lent.{Counted, firstOfFour}
+use Rattle.refusals.proofs.LentLaws.{counted}
 use Rattle.markers.specs.declared.Unpacked.{Unpacked}
 use Rattle.markers.specs.Unpacked.{unpackedOf}
 use Rattle.markers.proofs.Padded.{words-length}
@@ -30,7 +30,7 @@ use Rattle.phase.specs.declared.Answer.{Answer}
 use Rattle.phase.specs.declared.Phase.{Phase}
 use Rattle.phase.specs.declared.Transaction.{Transaction}
 use Rattle.phase.specs.Phase.{transactionOf, callOf, Ran}
-use Rattle.phase.proofs.Promise.{length-data-list, length-journal-list}
+use Rattle.phase.proofs.Tested.{lent-is}
 use Rattle.numbered.specs.Controls.{controlsFromHost}
 use Rattle.abi_phase.specs.declared.HostTransaction.{HostTransaction}
 use Rattle.abi_phase.specs.HostRecord.{known, fromHost, toHost}
@@ -81,26 +81,22 @@ module _ (phase mode status : ℕ) (rules actions words text outcomes : List ℕ
       outcomes = length outcomes;
     }
 
-    counted : Counted lentCall phase mode counts (sizesOf h (length ids) (length entries) (length journal))
+    lent-counted : Counted lentCall phase mode counts (sizesOf h (length ids) (length entries) (length journal))
     unfolding fromHost controlsFromHost
-    counted = record {
-      phase-is = refl;
-      mode-is = refl;
-      rules = length-rules rules;
-      actions = length-actions actions;
-      markers = length-markers words;
-      bytes = refl;
-      outcomes = refl;
-      sized = record {
-        ranges = ranges-length (controlsFromHost (h .controls));
-        targets = targets-length (controlsFromHost (h .controls));
-        ids-used = refl;
-        entries-used = refl;
-        ids = refl;
-        entries = length-data-list entries;
-        journal = length-journal-list journal;
-      };
-    }
+    lent-counted = counted (lent-is (record {
+      phase = phase;
+      mode = mode;
+      status = status;
+      rules = rules;
+      actions = actions;
+      markers = words;
+      text = text;
+      outcomes = outcomes;
+      t = fromHost h;
+      ids = ids;
+      entries = entries;
+      journal = journal;
+    }))
 
     -- k is what `unknown_answer` gave
     pub ran-unknown : (k : ℕ) (sizes : Sizes) → sizes ≡ sizesOf h (length ids) (length entries) (length journal)
@@ -108,7 +104,7 @@ module _ (phase mode status : ℕ) (rules actions words text outcomes : List ℕ
         → HostRan h lentCall ids entries journal (record { answer = k; error = 0; visits = 0 }) h ids entries journal
     ran-unknown k sizes are unknown answers =
         let e : k ≡ unknownAnswer lentCall =
-        answers lentCall (subst (λ (z : Sizes). Counted lentCall phase mode counts z) (sym are) counted) in
+        answers lentCall (subst (λ (z : Sizes). Counted lentCall phase mode counts z) (sym are) lent-counted) in
         record {
           ran = λ y. absurd (not-both (known h) y unknown);
           record-is = λ y. absurd (not-both (known h) y unknown);

@@ -1,7 +1,7 @@
 -- `abi_phase::lent_words` meets its contract.
-use mathlib.Core.Path.{ap, sym, _∙_}
+use mathlib.Core.Path.{ap}
 use native.Mathlib.Omega.{arith}
-use lib.ListN.{length, take, length-map}
+use lib.ListN.{take}
 use Rattle.lists.proofs.Slices.{front-length}
 use Rattle.abi_phase.proofs.LentMarkers.{few-words}
 use borrow.Author.Needs.{needs}
