@@ -51,12 +51,9 @@ fn entry_changes(index: u64, verdict: u64, rules: &[u64], codes: &[u16]) -> bool
 }
 
 // Whether a closed unit has a member with an action that changes the controls.
-pub fn changes(closes: bool, entries: &[u64], rules: &[u64], codes: &[u16]) -> bool
-    ensures { λ r. ⌜ r ≡ (closes && unitChanges (now (codes .entry)) (ruleList (now (rules .entry))) (matchedIn (journalList (now (entries .entry))))) ⌝ }
+pub fn changes(entries: &[u64], rules: &[u64], codes: &[u16]) -> bool
+    ensures { λ r. ⌜ r ≡ unitChanges (now (codes .entry)) (ruleList (now (rules .entry))) (matchedIn (journalList (now (entries .entry)))) ⌝ }
 {
-    if !closes {
-        return false;
-    }
     let n = entries.len() / 2;
     let mut i = 0;
     while i < n {

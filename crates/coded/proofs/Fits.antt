@@ -89,20 +89,6 @@ unit-idle s codes rules (m ∷ ms) c h = go (ruleChanges codes (getD rules m noR
     go false e r others =
         ap (unitCoded s codes rules ms) (rule-idle s codes (getD rules m noRule) c e) ∙ others r
 
--- what a visit leaves, by whether its unit closes and changes something
-pub after-idle : (s : Source) (codes : List ℕ) (rules : List Rule) (ms : List ℕ) (c : Controls) (closes b : Bool)
-    → b ≡ (closes && unitChanges codes rules ms) → not b ≡ true → cond closes (unitCoded s codes rules ms c) c ≡ c
-after-idle s codes rules ms c true true e h = absurd (let z : _≡_ {A = ℕ} 0 1 = ap (λ (x : Bool). cond x 1 0) h in omega (arith, z))
-after-idle s codes rules ms c true false e h = unit-idle s codes rules ms c (sym e)
-after-idle s codes rules ms c false b e h = refl
-
-pub after-changed : (s : Source) (codes : List ℕ) (rules : List Rule) (ms : List ℕ) (c : Controls) (closes b : Bool)
-    → b ≡ (closes && unitChanges codes rules ms) → not b ≡ false
-    → cond closes (unitCoded s codes rules ms c) c ≡ unitCoded s codes rules ms c
-after-changed s codes rules ms c true b e h = refl
-after-changed s codes rules ms c false true e h = absurd (let z : _≡_ {A = ℕ} 1 0 = ap (λ (x : Bool). cond x 1 0) e in omega (arith, z))
-after-changed s codes rules ms c false false e h = absurd (let z : _≡_ {A = ℕ} 1 0 = ap (λ (x : Bool). cond x 1 0) h in omega (arith, z))
-
 -- NO DIRECTIVE TAKES A RANGE OR A TARGET AWAY
 
 applied-grown : (c : Controls) (at : Place) (d : Directive) → Grown c (applied c at d)

@@ -3,7 +3,6 @@
 use adding::Held;
 use reading::Place;
 use reading::Rule;
-ghost use mathlib.Core.Bool.{cond};
 ghost use mathlib.Core.List.{[], _∷_};
 ghost use lib.Dec.{eqb};
 ghost use lib.ListN.{getD};
@@ -187,10 +186,9 @@ fn members_controls(
     r
 }
 
-// The controls after a visit: those after its unit, where one closes. Where no action of the unit changes them, as for most, no
-// more than that is looked at. Lists of other lengths than the arrays of the controls are left as they are.
+// The controls after a closed unit. Where no action of the unit changes them, as for most, no more than that is looked at. Lists
+// of other lengths than the arrays of the controls are left as they are.
 pub fn unit_controls(
-    closes: bool,
     h: Held,
     entries: &[u64],
     rules: &[u64],
@@ -206,15 +204,14 @@ pub fn unit_controls(
     ensures { λ r. ⌜ (Whole (now (starts .entry)) (now (ends .entry)) (now (phases .entry)) (now (positions .entry))
         → Turned h (now (starts .entry)) (now (ends .entry)) (now (phases .entry)) (now (positions .entry))
         r (now (starts .exit)) (now (ends .exit)) (now (phases .exit)) (now (positions .exit))
-        (cond closes (unitCoded (record { phase = phase; text = now (text .entry); actions = actionList (now (actions .entry)) }) (now (codes .entry))
+        (unitCoded (record { phase = phase; text = now (text .entry); actions = actionList (now (actions .entry)) }) (now (codes .entry))
         (ruleList (now (rules .entry))) (matchedIn (journalList (now (entries .entry))))
-        (controlsOf (structOf h (now (starts .entry)) (now (ends .entry)) (now (phases .entry)) (now (positions .entry)))))
         (controlsOf (structOf h (now (starts .entry)) (now (ends .entry)) (now (phases .entry)) (now (positions .entry)))))) ⌝ }
     ensures { λ r. ⌜ ((Whole (now (starts .entry)) (now (ends .entry)) (now (phases .entry)) (now (positions .entry)) → ⊥)
         → Left h (now (starts .entry)) (now (ends .entry)) (now (phases .entry)) (now (positions .entry))
         r (now (starts .exit)) (now (ends .exit)) (now (phases .exit)) (now (positions .exit))) ⌝ }
 {
-    if !changes::changes(closes, entries, rules, codes) {
+    if !changes::changes(entries, rules, codes) {
         return h;
     }
     if starts.len() != 256 {

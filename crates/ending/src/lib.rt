@@ -1,15 +1,15 @@
-// How a visit ends the walk, what the call answers then, and where a call has nothing to do.
+// How a closed unit leaves the walk, what the call answers at its end, and where a call has nothing to do.
 use adding::Held;
 use control::Controls;
 use control::Settings;
 use phase::Answer;
+use phase::End;
 use phase::Phase;
 use phase::Transaction;
 use reading::OptionIntervention;
 use reading::RuleEngineMode;
 use stopping::Ending;
 use unit::Closed;
-use visit::Visited;
 ghost use mathlib.Core.Path.{_≡_};
 ghost use mathlib.Core.Bool.{_||_, not, cond};
 ghost use lib.Dec.{eqb};
@@ -27,7 +27,7 @@ fn mode_under(ruleset_mode: RuleEngineMode, settings: Settings) -> RuleEngineMod
     held::mode_or(ruleset_mode, setting)
 }
 
-// Whether a visit is the last: it ended the phase, or the mode is Off behind it.
+// Whether a unit is the last: it ended the phase, or the mode is Off after it.
 fn is_last(ending: Ending, mode: RuleEngineMode) -> bool
     ensures { λ r. ⌜ r ≡ (not (isGoing ending) || isOff mode) ⌝ }
 {
@@ -39,22 +39,21 @@ fn is_last(ending: Ending, mode: RuleEngineMode) -> bool
     }
 }
 
-// How a visit leaves the phase, and whether it is the last.
+// How a closed unit leaves the phase, and whether it is the last.
 pub struct TurnEnd {
     pub ending: Ending,
     pub last: bool,
 }
 
-// The end of a turn, by what was found, what the unit gave, and the mode behind the unit's controls.
-pub fn turn_end(v: Visited, u: Closed, ruleset_mode: RuleEngineMode, h: Held) -> TurnEnd
-    ensures { λ r. ⌜ r .ending ≡ endBy (v .verdict) (u .disruptive) (modeOr «ruleset_mode» (h .settings .mode)) ⌝ }
+// The end of a turn that closed a unit, by what the unit gave and the mode after its controls.
+pub fn turn_end(u: Closed, ruleset_mode: RuleEngineMode, h: Held) -> TurnEnd
+    ensures { λ r. ⌜ r .ending ≡ endBy (u .disruptive) (modeOr «ruleset_mode» (h .settings .mode)) ⌝ }
     ensures { λ r. ⌜ r .last ≡ (not (isGoing (r .ending)) || isOff (modeOr «ruleset_mode» (h .settings .mode))) ⌝ }
 {
-    let found = v.verdict;
     let disruptive = u.disruptive;
     let settings = h.settings;
     let now = mode_under(ruleset_mode, settings);
-    let ending = stopping::end_of(found, disruptive, now);
+    let ending = stopping::end_of(disruptive, now);
     let last = is_last(ending, now);
     TurnEnd { ending, last }
 }
@@ -94,29 +93,27 @@ fn gives_allow(ending: Ending) -> bool
     }
 }
 
-// The answer of a walk that ended so at the rule `last`, the controls from their parts. The transaction had no allow and no
-// intervention.
+// The answer of a walk that ended so, the controls from their parts. After an error the walk stands at the rule that had it. The
+// transaction had no allow and no intervention.
 pub fn ended(
-    ending: Ending,
-    last: usize,
-    visits: usize,
-    ids: usize,
-    entries: usize,
-    stop: OptionIntervention,
-    h: Held,
+    end: End,
     starts: [u64; 256],
     ends: [u64; 256],
     phases: [u64; 64],
     positions: [u64; 64],
 ) -> Phase
-    ensures { λ r. ⌜ r ≡ endedBy ending last visits ids entries stop (structOf h starts ends phases positions) ⌝ }
+    ensures { λ r. ⌜ r ≡ endedBy (end .ending) (end .at .state .next) (end .at .visits) (end .at .ids) (end .at .entries) (end .stop)
+        (structOf (end .at .held) starts ends phases positions) ⌝ }
 {
+    let ending = end.ending;
+    let at = end.at;
     let answer = Answer {
         answer: answer_of(ending),
-        error: error_of(ending, last),
-        visits: visits as u64,
+        error: error_of(ending, at.state.next),
+        visits: at.visits as u64,
     };
     let allowed = gives_allow(ending);
+    let h = at.held;
     let settings = h.settings;
     let controls = Controls {
         settings,
@@ -127,14 +124,15 @@ pub fn ended(
         positions,
         targets: h.targets,
     };
+    let intervention = end.stop;
     Phase {
         answer,
         transaction: Transaction {
             controls,
             allowed,
-            intervention: stop,
-            ids,
-            entries,
+            intervention,
+            ids: at.ids,
+            entries: at.entries,
         },
     }
 }

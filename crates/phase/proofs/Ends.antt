@@ -6,6 +6,7 @@ use mathlib.Core.List.{List, [], _∷_, _++_}
 use Rattle.reading.specs.declared.Verdict.{Verdict}
 use Rattle.reading.specs.declared.DisruptiveOutcome.{DisruptiveOutcome}
 use Rattle.reading.specs.declared.Intervention.{Intervention}
+use Rattle.reading.specs.declared.RuleEngineMode.{RuleEngineMode}
 use Rattle.reading.specs.declared.OptionIntervention.{OptionIntervention}
 use Rattle.reading.specs.Reading.{rust}
 use Rattle.reading.specs.Controls.{Controls, isOn}
@@ -17,6 +18,7 @@ use Rattle.reading.specs.Walk as reading
 use Rattle.visit.specs.declared.Visited.{Visited}
 use Rattle.visit.specs.declared.State as code
 use Rattle.visit.specs.Found.{entryBy, foundAt}
+use Rattle.visit.specs.Found as visit
 use Rattle.stopping.specs.declared.Ending.{Ending}
 use Rattle.stopping.specs.Ends.{endBy}
 use Rattle.intervention.specs.Stopped.{stoppedBy}
@@ -62,6 +64,10 @@ module _ (a b : Bool) (i : Intervention) where
   stop-by false true = refl
   stop-by false false = refl
 
+-- how a visit leaves the phase: by a rule error, else by the last disruptive action of its unit, if it closes one
+abbrev pub endOf : Verdict → DisruptiveOutcome → RuleEngineMode → Ending
+endOf found d mode = cond (visit.isError found) Ending.Errs (endBy d mode)
+
 -- by what is found and whether the rule is a link
 module _ (q : Call) (reading : q .reading ≡ rust) (st : State) (chained : Bool) (first : ℕ) where
   abbrev unit : List ℕ
@@ -69,7 +75,7 @@ module _ (q : Call) (reading : q .reading ≡ rust) (st : State) (chained : Bool
 
   ending-by : (v : Verdict) (l : Bool) (d : DisruptiveOutcome)
       → d ≡ cond (byCode q reading st chained first v l .closes) (unitDisruptive q unit) DisruptiveOutcome.Nothing
-      → kindOf (visitBy q st v l .ending) ≡ endBy v d (modeUnder q (visitBy q st v l .after .controls))
+      → kindOf (visitBy q st v l .ending) ≡ endOf v d (modeUnder q (visitBy q st v l .after .controls))
   ending-by Verdict.Missed l d e = rw e
   ending-by Verdict.Matched true d e = rw e
   ending-by Verdict.Matched false d e = rw e (kind-by true true (unitIntervention q unit) (isAllow (unitDisruptive q unit))
@@ -105,7 +111,7 @@ module _ (q : Call) (reading : q .reading ≡ rust) (ms : List ℕ) (c : Control
     unitNow = unitOf q reading ms c s visits inside found found-is w w-is
 
     pub ending-is : (d : DisruptiveOutcome) → d ≡ cond (w .closes) (unitDisruptive q unitNow) DisruptiveOutcome.Nothing
-        → kindOf (v .ending) ≡ endBy found d (modeUnder q (v .after .controls))
+        → kindOf (v .ending) ≡ endOf found d (modeUnder q (v .after .controls))
     ending-is d e =
         let z = ending-by q reading st (s .chained) (entryBy s visits) found (isLink q (s .next)) d
         (e ∙ ap (λ (x : Visited). cond (x .closes) (unitDisruptive q unitNow) DisruptiveOutcome.Nothing)

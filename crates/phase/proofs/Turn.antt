@@ -1,31 +1,34 @@
 -- One turn of the loop of `walk_rules`, of what its callees gave. Assumes nothing.
 use Prim.Native.Nat.{ℕ, zero, suc, _+_, _-_, _*_, _/_, _≤_, _<_, _^_, min}
 use mathlib.Core.Path.{_≡_, refl, sym, ap, ap₂, subst, _∙_}
-use mathlib.Core.Bool.{Bool, true, false, not, cond, _||_}
+use mathlib.Core.Bool.{Bool, true, false, not, cond, _||_, _&&_}
 use mathlib.Core.List.{List, [], _∷_, _++_, append-assoc, append-nil}
 use native.Mathlib.Omega.{arith}
 use native.Mathlib.Nat.{add-zero}
 use mir.Syntax.{w64}
 use mir.Val.{Fits}
 use lib.Dec.{eqb}
-use lib.ListN.{length, take, drop, length-append, drop-of-length-le, take-append-drop}
+use lib.ListN.{length, take, drop, length-append, length-take, drop-of-length-le, take-append-drop}
 use lib.Seq.{drop-append-le, take-all}
 use Rattle.reading.specs.declared.DisruptiveOutcome.{DisruptiveOutcome}
 use Rattle.reading.specs.declared.DataEntry.{DataEntry}
+use Rattle.reading.specs.declared.Intervention.{Intervention}
 use Rattle.reading.specs.declared.JournalEntry.{JournalEntry}
 use Rattle.reading.specs.declared.OptionIntervention.{OptionIntervention}
+use Rattle.reading.specs.declared.RuleEngineMode.{RuleEngineMode}
 use Rattle.reading.specs.declared.Verdict.{Verdict}
 use Rattle.reading.specs.Lists.{keep, over, gather}
 use Rattle.reading.specs.Numbers.{verdictNumber}
 use Rattle.reading.specs.Outcome.{atFreeEnd}
 use Rattle.reading.specs.Reading.{rust}
 use Rattle.reading.specs.Records.{dataWords, journalWords, journalList, matchedIn, ruleList}
-use Rattle.reading.specs.Controls.{isOff}
+use Rattle.reading.specs.Controls.{isOff, isOn}
 use Rattle.reading.specs.Walk as defined
 use Rattle.reading.specs.Walk.{givesAllow, isError}
 use Rattle.reading.specs.Controls as plain
 use Rattle.reading.specs.Call.{Call, ruleCount, modeUnder, isLink}
-use Rattle.reading.specs.Units.{unitIds, unitData, unitControls, unitFlow, unitDisruptive, unitIntervention}
+use Rattle.reading.specs.Units.{unitIds, unitData, unitControls, unitFlow, unitDisruptive, unitIntervention, isAllow}
+use Rattle.reading.specs.Units.{isStopping}
 use Rattle.reading.specs.Walk.{Visit, isLast, entryOf, journalOf, idsOf, dataOf, controlsAfter, walk, verdictAt, visitAt}
 use Rattle.reading.specs.Walk.{afterFlow}
 use Rattle.lists.proofs.Tests.{or-false, or-false-is}
@@ -34,6 +37,8 @@ use Rattle.theorems.specs.Rising.{goes-ahead}
 use Rattle.control.specs.declared.Controls.{Controls}
 use Rattle.control.specs.Held.{controlsOf, Became}
 use Rattle.control_laws.proofs.Chained.{became-same, became-then}
+use Rattle.adding.specs.declared.Held.{Held}
+use Rattle.adding.specs.Lent.{structOf}
 use Rattle.coded.specs.Coded.{unitCoded}
 use Rattle.coded.proofs.StepLaws.{Grown}
 use Rattle.coded.proofs.Fits.{sourceOf, unit-fits}
@@ -43,21 +48,25 @@ use Rattle.members.proofs.WordLaws.{length-journal-words, journal-words-append,
 use Rattle.members.proofs.WordLaws.{journal-part}
 use Rattle.visit.specs.declared.State.{State}
 use Rattle.visit.specs.declared.Visited.{Visited}
-use Rattle.visit.specs.Found.{entryBy, foundAt, leadsOn}
+use Rattle.visit.specs.Found.{entryBy, foundAt}
+use Rattle.visit.specs.Found as visit
 use Rattle.unit.specs.declared.Closed.{Closed}
 use Rattle.unit.specs.Closed.{Wrote}
 use Rattle.stopping.specs.declared.Ending.{Ending}
 use Rattle.stopping.specs.Ends.{endBy}
-use Rattle.stopping.specs.Ends as ends
 use Rattle.intervention.specs.Stopped.{stoppedBy}
 use Rattle.phase.specs.declared.Transaction.{Transaction}
+use Rattle.phase.specs.declared.Reached.{Reached}
+use Rattle.phase.specs.declared.End.{End}
+use Rattle.phase.specs.declared.AfterUnit.{AfterUnit}
 use Rattle.phase.specs.Walked.{visitsFrom, Ready, isGoing, isErrs, isAllows, endedBy, Walked}
+use Rattle.phase.specs.Walked.{Room, movedBy, leftBy, UnitClosed}
 use Rattle.phase.proofs.Turns.{walk-step, walk-off, walk-clip, journal-more, ids-append, data-append, controls-append}
 use Rattle.phase.proofs.Turns.{going-more, answer-after, error-after, allowed-after, intervention-after}
 use Rattle.phase.proofs.Turns.{visit-grows, kept-grows, walk-grows, true-false}
-use Rattle.phase.proofs.Parts.{free-length, put-in, put-free}
+use Rattle.phase.proofs.Parts.{whole-length, free-length, put-free}
 use Rattle.phase.proofs.Found.{entry-is, closed-is, controls-is, next-is, first-is, closes-matched, members-are}
-use Rattle.phase.proofs.Ends.{kindOf, last-kind, error-kind, allow-kind, ending-is, stopping-is}
+use Rattle.phase.proofs.Ends.{kindOf, endOf, last-kind, error-kind, allow-kind, ending-is, stopping-is}
 use Rattle.phase.proofs.Progress.{Written, Sofar, finished, journal-done, journal-inside, journal-length, ids-done}
 use Rattle.phase.proofs.Progress.{ids-inside, ids-length, entries-done, entries-inside, entries-length}
 
@@ -72,33 +81,81 @@ take-none : {A : Type 0} (n : ℕ) → take {A = A} n [] ≡ []
 take-none zero = refl
 take-none (suc n) = refl
 
--- where no unit closes, nothing is written
-wrote-none : (q : Call) (closes : Bool) (unit : List ℕ) (behind : ℕ) (ids entries : List ℕ) → closes ≡ false
-    → Wrote q closes unit behind ids entries
-    (record { ids = 0; entries = 0; next = behind; disruptive = DisruptiveOutcome.Nothing }) ids entries
-wrote-none q true unit behind ids entries e = absurd (true-false e)
-wrote-none q false unit behind ids entries e = record {
-  id-count = rw (take-none (length ids));
-  ids-are = rw (take-none (length ids));
-  entry-count = rw (take-none (length entries / 4));
-  entries-are = rw (take-none (length entries / 4));
-  next-is = refl;
-  disruptive-is = refl;
+-- what a visit gives: what its unit does, if it closes one
+pub record Gave (q : Call) (closes : Bool) (unit : List ℕ) (behind : ℕ) (ids entries : List ℕ) (u : Closed) (ids′ entries′ : List ℕ)
+    : Type 0 where
+  pub id-count : u .ids ≡ length (take (length ids) (keep closes (unitIds q unit)))
+  pub ids-are : ids′ ≡ over ids (take (length ids) (keep closes (unitIds q unit)))
+  pub entry-count : u .entries ≡ length (take (length entries / 4) (keep closes (unitData q unit)))
+  pub entries-are : entries′ ≡ over entries (dataWords (take (length entries / 4) (keep closes (unitData q unit))))
+  pub next-is : u .next ≡ cond closes (min (afterFlow q behind (unitFlow q unit)) (ruleCount q)) behind
+  pub disruptive-is : u .disruptive ≡ cond closes (unitDisruptive q unit) DisruptiveOutcome.Nothing
+
+gave-unit : (q : Call) (closes : Bool) (unit : List ℕ) (behind : ℕ) (ids entries : List ℕ) (u : Closed) (ids′ entries′ : List ℕ)
+    → closes ≡ true → Wrote q unit behind ids entries u ids′ entries′ → Gave q closes unit behind ids entries u ids′ entries′
+gave-unit q closes unit behind ids entries u ids′ entries′ e w = record {
+  id-count = rw e (w .id-count);
+  ids-are = rw e (w .ids-are);
+  entry-count = rw e (w .entry-count);
+  entries-are = rw e (w .entries-are);
+  next-is = rw e (w .next-is);
+  disruptive-is = rw e (w .disruptive-is);
 }
 
-became-none : (c : Controls) (closes : Bool) (x : plain.Controls) → closes ≡ false → Became c c (cond closes x (controlsOf c))
-became-none c true x e = absurd (true-false e)
-became-none c false x e = became-same c
+-- a unit lists no more than there is room for
+pub wrote-few : (q : Call) (unit : List ℕ) (behind : ℕ) (ids entries : List ℕ) (u : Closed) (ids′ entries′ : List ℕ)
+    → Wrote q unit behind ids entries u ids′ entries′ → (u .ids ≤ length ids) × (4 * u .entries ≤ length entries)
+wrote-few q unit behind ids entries u ids′ entries′ w = (
+  omega (arith, w .id-count, length-take (length ids) (unitIds q unit)),
+  omega (arith, w .entry-count, length-take (length entries / 4) (unitData q unit)),
+)
 
--- a visit that leads on closes nothing, and its rule had no error
-leads-by : (found : Verdict) (closes : Bool) → (closes ≡ true → found ≡ Verdict.Matched) → leadsOn found ≡ true
-    → (closes ≡ false) × (ends.isError found ≡ false)
-leads-by Verdict.Missed false m e = (refl, refl)
-leads-by Verdict.Missed true m e = absurd (true-false (ap leadsOn (m refl)))
-leads-by Verdict.Matched closes m e = absurd (true-false (sym e))
-leads-by Verdict.Removed false m e = (refl, refl)
-leads-by Verdict.Removed true m e = absurd (true-false (ap leadsOn (m refl)))
-leads-by Verdict.Error closes m e = absurd (true-false (sym e))
+-- of a visit that closes no unit
+abbrev nothing : ℕ → Closed
+nothing behind = record { ids = 0; entries = 0; next = behind; disruptive = DisruptiveOutcome.Nothing }
+
+gave-none : (q : Call) (closes : Bool) (unit : List ℕ) (behind : ℕ) (ids entries : List ℕ) → closes ≡ false
+    → Gave q closes unit behind ids entries (nothing behind) ids entries
+gave-none q closes unit behind ids entries e = record {
+  id-count = rw (e, take-none {A = ℕ} (length ids));
+  ids-are = rw (e, take-none {A = ℕ} (length ids));
+  entry-count = rw (e, take-none {A = DataEntry} (length entries / 4));
+  entries-are = rw (e, take-none {A = DataEntry} (length entries / 4));
+  next-is = rw e;
+  disruptive-is = rw e;
+}
+
+-- what is left of a walk by whether a unit was its last
+left-on : (last : Bool) (e : Ending) (at : Reached) (stop : OptionIntervention) (next : Reached)
+    → leftBy last e at stop ≡ AfterUnit.GoesOn next → (last ≡ false) × (at ≡ next)
+left-on true e at stop next h = absurd (let z : _≡_ {A = ℕ} 0 1 = cc in omega arith)
+left-on false e at stop next h = (refl, cc)
+
+left-end : (last : Bool) (e : Ending) (at : Reached) (stop : OptionIntervention) (end : End)
+    → leftBy last e at stop ≡ AfterUnit.Ends end → (last ≡ true) × (record { ending = e; at = at; stop = stop } ≡ end)
+left-end true e at stop end h = (refl, cc)
+left-end false e at stop end h = absurd (let z : _≡_ {A = ℕ} 0 1 = cc in omega arith)
+
+-- what the code makes of how a unit leaves the phase, and of whether it is the last
+module _ (mode : RuleEngineMode) (d : DisruptiveOutcome) (at : Reached) (i : Intervention) (e : Ending) (e-is : e ≡ endBy d mode)
+    (last : Bool) (last-is : last ≡ (not (isGoing e) || isOff mode)) where
+  abbrev leftSo : AfterUnit
+  leftSo = leftBy (not (isGoing (endBy d mode)) || isOff mode) (endBy d mode) at (stoppedBy (endBy d mode) i)
+
+  pub unit-ends : last ≡ true → (stop : OptionIntervention) → stop ≡ stoppedBy e i
+      → AfterUnit.Ends (record { ending = e; at = at; stop = stop }) ≡ leftSo
+  unit-ends h stop stop-is = rw (← e-is, ← last-is, h, stop-is)
+
+  pub unit-goes-on : last ≡ false → AfterUnit.GoesOn at ≡ leftSo
+  unit-goes-on h = rw (← e-is, ← last-is, h)
+
+-- a closed unit is no error, so no index is given
+no-index : (i k : ℕ) (a b : Bool)
+    → cond (isErrs (cond a Ending.Allows (cond b Ending.Stops Ending.GoesOn))) i 0
+    ≡ cond (isErrs (cond a Ending.Allows (cond b Ending.Stops Ending.GoesOn))) k 0
+no-index i k true b = refl
+no-index i k false true = refl
+no-index i k false false = refl
 
 -- what is known where a turn's rule has been visited: the call, how far the walk was, and what was found
 pub record Turning : Type 0 where
@@ -231,7 +288,7 @@ module _ (turn : Turning) where
   goes = goes-ahead q st (verdictAt q (controlsOf c) (s .next)) (isLink q (s .next)) inside
 
   -- ROOM
-  pub ids-start : listed ≤ length ids
+  ids-start : listed ≤ length ids
   ids-start =
       omega (
         arith,
@@ -241,7 +298,7 @@ module _ (turn : Turning) where
             (so .lists),
       )
 
-  pub entries-start : 4 * written ≤ length entries
+  entries-start : 4 * written ≤ length entries
   entries-start =
       omega (
         arith,
@@ -270,21 +327,9 @@ module _ (turn : Turning) where
   as-lent-entries : length entries ≡ length entries₀
   as-lent-entries = entries-length q t codes ids₀ entries₀ journal₀ ready (so .done) (v ∷ tail) step ids entries journal visits listed written (so .lists)
 
-  -- numbers that stay below 2^64, as the lists are in memory
+  -- the journal is in memory
   pub visits-fit : 8 * length journal₀ < 2 ^ 64 → Fits w64 (visits + 1)
   visits-fit small = omega (arith, journal-next, as-lent-journal)
-
-  pub to-fits : 8 * length journal₀ < 2 ^ 64 → Fits w64 (2 * (visits + 1))
-  to-fits small = omega (arith, journal-next, as-lent-journal)
-
-  pub listed-fits : 8 * length ids₀ < 2 ^ 64 → Fits w64 (listed * 8)
-  listed-fits small = omega (arith, ids-start, as-lent-ids)
-
-  pub written-fits : 8 * length entries₀ < 2 ^ 64 → Fits w64 (4 * written)
-  written-fits small = omega (arith, entries-start, as-lent-entries)
-
-  pub written-fits-bytes : 8 * length entries₀ < 2 ^ 64 → Fits w64 (4 * written * 8)
-  written-fits-bytes small = omega (arith, entries-start, as-lent-entries)
 
   module _ (journal′ : List ℕ) (journal-is : journal′ ≡ atFreeEnd (2 * visits) journal (s .next ∷ verdictNumber found ∷ [])) where
     journal-now : journal′ ≡ journalWords (journalOf done′) ++ drop (2 * (visits + 1)) journal₀
@@ -330,34 +375,22 @@ module _ (turn : Turning) where
         ∙ ap (λ (x : JournalEntry). keep (eqb (x .verdict) 1) (x .index ∷ []))
         (entry-is q reading (so .members) (controlsOf c) s visits inside found found-is w w-is))))
 
-    part-since : part ≡ so .members ++ keep (eqb (verdictNumber found) 1) (s .next ∷ [])
-    part-since =
-        let f : w .after .first ≤ visits + 1 = omega (arith, first-now, so .entry) in
-        ap matchedIn (journal-part journal′ (journalOf done′) (drop (2 * (visits + 1)) journal₀) (w .after .first) (visits + 1)
-        journal-now (sym length-now) f)
-        ∙ (ap (λ (n : ℕ). matchedIn (drop n (journalOf done′))) first-now ∙ since-now)
-
-    pub part-start : 2 * w .after .first ≤ 2 * (visits + 1)
+    part-start : w .after .first ≤ visits + 1
     part-start = omega (arith, first-now, so .entry)
 
-    pub from-fits : 8 * length journal₀ < 2 ^ 64 → Fits w64 (2 * w .after .first)
-    from-fits small = omega (arith, part-start, journal-next, as-lent-journal)
+    part-since : part ≡ so .members ++ keep (eqb (verdictNumber found) 1) (s .next ∷ [])
+    part-since =
+        ap matchedIn (journal-part journal′ (journalOf done′) (drop (2 * (visits + 1)) journal₀) (w .after .first) (visits + 1)
+        journal-now (sym length-now) part-start)
+        ∙ (ap (λ (n : ℕ). matchedIn (drop n (journalOf done′))) first-now ∙ since-now)
 
-    pub from-fits-bytes : 8 * length journal₀ < 2 ^ 64 → Fits w64 (2 * w .after .first * 8)
-    from-fits-bytes small = omega (arith, part-start, journal-next, as-lent-journal)
+    pub journal-long : length journal′ ≡ length journal₀
+    journal-long =
+        rw journal-now (whole-length (journalWords (journalOf done′)) journal₀ (2 * (visits + 1))
+        (omega (arith, length-journal-words (journalOf done′), length-now)) (omega (arith, journal-next, as-lent-journal)))
 
-    pub part-end : 2 * (visits + 1) ≤ length journal′
-    part-end =
-        let r = journal-inside q t codes ids₀ entries₀ journal₀ ready (so .done) (v ∷ tail) step ids entries journal visits listed
-        written (so .lists) in
-        let k : length journal′ ≡ length (journalWords (journalOf done′) ++ drop (2 * (visits + 1)) journal₀) = ap length
-        journal-now in
-        omega (
-          arith,
-          length-append (journalWords (journalOf done′)) (drop (2 * (visits + 1)) journal₀),
-          length-journal-words (journalOf done′),
-          length-now,
-        )
+    part-end : 2 * (visits + 1) ≤ length journal′
+    part-end = omega (arith, journal-long, journal-next, as-lent-journal)
 
     -- a visit that closes a unit closes the one that the code looks at
     unit-part : w .closes ≡ true → part ≡ unit
@@ -383,28 +416,14 @@ module _ (turn : Turning) where
         ap (λ (ms : List ℕ). unitCoded (sourceOf q) codes (q .rules) ms (controlsOf c)) (unit-part e)
         ∙ (unit-fits q codes 4096 (ready .digested) unit (controlsOf c) r g ∙ a)
 
-    pub changed : (c′ : Controls)
-        → Became c c′ (cond (w .closes) (unitCoded (sourceOf q) codes (q .rules) part (controlsOf c)) (controlsOf c))
-        → Became c c′ (v .after .controls)
-    changed c′ p = subst (Became c c′) (go (w .closes) refl) p
-      where
-        go : (x : Bool) → w .closes ≡ x
-            → cond (w .closes) (unitCoded (sourceOf q) codes (q .rules) part (controlsOf c)) (controlsOf c) ≡ v .after .controls
-        go true d =
-            ap (λ (y : Bool). cond y (unitCoded (sourceOf q) codes (q .rules) part (controlsOf c)) (controlsOf c)) d ∙ coded-now d
-        go false d =
-            ap (λ (y : Bool). cond y (unitCoded (sourceOf q) codes (q .rules) part (controlsOf c)) (controlsOf c)) d
-            ∙ sym (controls-now ∙ ap (λ (y : Bool). cond y (unitControls q unit (controlsOf c)) (controlsOf c)) d)
-
     -- THE LISTS
     module _ (u : Closed) (il el : List ℕ)
-        (u-is : Wrote q (w .closes) part (w .after .next) (take (length ids - listed) (drop listed ids))
-        (take (length entries - 4 * written) (drop (4 * written) entries)) u il el) where
+        (u-is : Gave q (w .closes) part (w .after .next) (drop listed ids) (drop (4 * written) entries) u il el) where
       abbrev ids′ : List ℕ
-      ids′ = take listed ids ++ (il ++ drop (length ids - listed) (drop listed ids))
+      ids′ = take listed ids ++ il
 
       abbrev entries′ : List ℕ
-      entries′ = take (4 * written) entries ++ (el ++ drop (length entries - 4 * written) (drop (4 * written) entries))
+      entries′ = take (4 * written) entries ++ el
 
       new-ids : keep (w .closes) (unitIds q part) ≡ idsOf q (v ∷ [])
       new-ids = new-of (unitIds q) (w .closes) part unit (v .closed) closed-now unit-part
@@ -437,22 +456,22 @@ module _ (turn : Turning) where
           listed written (so .lists)
 
       -- all of them fit
-      ids-fit : take (length (take (length ids - listed) (drop listed ids))) (keep (w .closes) (unitIds q part)) ≡ idsOf q
+      ids-fit : take (length (drop listed ids)) (keep (w .closes) (unitIds q part)) ≡ idsOf q
           (v ∷ [])
       ids-fit =
           let f = free-length (take (t .ids) ids₀ ++ idsOf q (so .done)) ids₀ ids listed (so .lists .ids-are) ids-size
           (omega (arith, ids-room)) in
-          ap (take (length (take (length ids - listed) (drop listed ids)))) new-ids
-          ∙ take-all (length (take (length ids - listed) (drop listed ids))) (idsOf q (v ∷ [])) (omega (arith, f, ids-room))
+          ap (take (length (drop listed ids))) new-ids
+          ∙ take-all (length (drop listed ids)) (idsOf q (v ∷ [])) (omega (arith, f, ids-room))
 
-      data-fit : take (length (take (length entries - 4 * written) (drop (4 * written) entries)) / 4)
+      data-fit : take (length (drop (4 * written) entries) / 4)
           (keep (w .closes) (unitData q part)) ≡ dataOf q (v ∷ [])
       data-fit =
           let f = free-length (take (4 * t .entries) entries₀ ++ dataWords (dataOf q (so .done))) entries₀ entries (4 * written)
           (so .lists .entries-are) entries-size
           (omega (arith, data-room)) in
-          ap (take (length (take (length entries - 4 * written) (drop (4 * written) entries)) / 4)) new-data
-          ∙ take-all (length (take (length entries - 4 * written) (drop (4 * written) entries)) / 4) (dataOf q (v ∷ []))
+          ap (take (length (drop (4 * written) entries) / 4)) new-data
+          ∙ take-all (length (drop (4 * written) entries) / 4) (dataOf q (v ∷ []))
           (omega (arith, f, data-room))
 
       id-count : u .ids ≡ length (idsOf q (v ∷ []))
@@ -463,9 +482,9 @@ module _ (turn : Turning) where
 
       ids-now : ids′ ≡ (take (t .ids) ids₀ ++ idsOf q done′) ++ drop (listed + u .ids) ids₀
       ids-now =
-          let p = put-in (take (t .ids) ids₀ ++ idsOf q (so .done)) ids₀ ids listed (so .lists .ids-are) ids-size
-          (omega (arith, ids-room)) (idsOf q (v ∷ [])) il
-          (u-is .ids-are ∙ ap (over (take (length ids - listed) (drop listed ids))) ids-fit) in
+          let p = ap (λ (l : List ℕ). take listed ids ++ l) (u-is .ids-are ∙ ap (over (drop listed ids)) ids-fit)
+          ∙ put-free (take (t .ids) ids₀ ++ idsOf q (so .done)) ids₀ ids listed (so .lists .ids-are) ids-size
+          (omega (arith, ids-room)) (idsOf q (v ∷ [])) in
           let e : (take (t .ids) ids₀ ++ idsOf q (so .done)) ++ idsOf q (v ∷ []) ≡ take (t .ids) ids₀ ++ idsOf q done′ =
           append-assoc (take (t .ids) ids₀) (idsOf q (so .done)) (idsOf q (v ∷ []))
           ∙ ap (λ (l : List ℕ). take (t .ids) ids₀ ++ l) (sym (ids-append q (so .done) (v ∷ []))) in
@@ -474,12 +493,10 @@ module _ (turn : Turning) where
       entries-now : entries′ ≡ (take (4 * t .entries) entries₀ ++ dataWords (dataOf q done′)) ++ drop (4 * (written + u .entries))
           entries₀
       entries-now =
-          let p = put-in (take (4 * t .entries) entries₀ ++ dataWords (dataOf q (so .done))) entries₀ entries (4 * written)
-          (so .lists .entries-are) entries-size
-          (omega (arith, data-room)) (dataWords (dataOf q (v ∷ []))) el
-          (u-is .entries-are ∙ ap
-          (λ (l : List DataEntry). over (take (length entries - 4 * written) (drop (4 * written) entries)) (dataWords l))
-          data-fit) in
+          let p = ap (λ (l : List ℕ). take (4 * written) entries ++ l)
+          (u-is .entries-are ∙ ap (λ (l : List DataEntry). over (drop (4 * written) entries) (dataWords l)) data-fit)
+          ∙ put-free (take (4 * t .entries) entries₀ ++ dataWords (dataOf q (so .done))) entries₀ entries (4 * written)
+          (so .lists .entries-are) entries-size (omega (arith, data-room)) (dataWords (dataOf q (v ∷ []))) in
           let e : (take (4 * t .entries) entries₀ ++ dataWords (dataOf q (so .done))) ++ dataWords (dataOf q (v ∷ [])) ≡ take
           (4 * t .entries) entries₀ ++ dataWords (dataOf q done′) =
           append-assoc (take (4 * t .entries) entries₀) (dataWords (dataOf q (so .done))) (dataWords (dataOf q (v ∷ [])))
@@ -512,26 +529,15 @@ module _ (turn : Turning) where
       whole-now : visitsFrom q ≡ done′ ++ tail
       whole-now = step ∙ sym (append-assoc (so .done) (v ∷ []) tail)
 
-      pub journal-kept : length journal′ ≡ length journal₀
-      journal-kept =
-          journal-length q t codes ids₀ entries₀ journal₀ ready done′ tail whole-now ids′ entries′ journal′ (visits + 1)
-          (listed + u .ids) (written + u .entries) written-now
-
-      pub ids-kept : length ids′ ≡ length ids₀
+      ids-kept : length ids′ ≡ length ids₀
       ids-kept =
           ids-length q t codes ids₀ entries₀ journal₀ ready done′ tail whole-now ids′ entries′ journal′ (visits + 1)
           (listed + u .ids) (written + u .entries) written-now
 
-      pub entries-kept : length entries′ ≡ length entries₀
+      entries-kept : length entries′ ≡ length entries₀
       entries-kept =
           entries-length q t codes ids₀ entries₀ journal₀ ready done′ tail whole-now ids′ entries′ journal′ (visits + 1)
           (listed + u .ids) (written + u .entries) written-now
-
-      pub listed-now-fits : 8 * length ids₀ < 2 ^ 64 → Fits w64 (listed + u .ids)
-      listed-now-fits small = omega (arith, ids-room, id-count)
-
-      pub written-now-fits : 8 * length entries₀ < 2 ^ 64 → Fits w64 (written + u .entries)
-      written-now-fits small = omega (arith, data-room, entry-count)
 
       visit-next : v .after .next ≡ cond (w .closes) (afterFlow q (w .after .next) (unitFlow q unit)) (w .after .next)
       visit-next = next-is q reading (so .members) (controlsOf c) s visits inside found found-is w w-is
@@ -557,12 +563,12 @@ module _ (turn : Turning) where
       next-more = next-past (w .closes) (u .next) (next-by (w .closes) refl)
 
       -- fewer rules are left
-      pub fewer-left : (n : ℕ) → s .next < n → n - u .next < n - s .next
+      fewer-left : (n : ℕ) → s .next < n → n - u .next < n - s .next
       fewer-left n h = omega (arith, next-more)
 
       -- HOW THE TURN ENDS
       module _ (c′ : Controls) (c′-is : Became c c′ (v .after .controls)) (e : Ending)
-          (e-is : e ≡ endBy found (u .disruptive) (modeUnder q (controlsOf c′))) where
+          (e-is : e ≡ endOf found (u .disruptive) (modeUnder q (controlsOf c′))) where
         became-now : Became (t .controls) c′ (controlsAfter (controlsOf (t .controls)) done′)
         became-now =
             let z : controlsAfter (controlsOf (t .controls)) done′ ≡ v .after .controls = controls-append
@@ -582,7 +588,7 @@ module _ (turn : Turning) where
         kind-is : kindOf (v .ending) ≡ e
         kind-is =
             ending-is q reading (so .members) (controlsOf c) s visits inside found found-is w w-is (u .disruptive) disruptive-now
-            ∙ (ap (λ (x : plain.Controls). endBy found (u .disruptive) (modeUnder q x)) (sym (c′-is .meaning)) ∙ sym e-is)
+            ∙ (ap (λ (x : plain.Controls). endOf found (u .disruptive) (modeUnder q x)) (sym (c′-is .meaning)) ∙ sym e-is)
 
         last-is : isLast (v .ending) ≡ not (isGoing e)
         last-is = last-kind (v .ending) ∙ ap (λ (x : Ending). not (isGoing x)) kind-is
@@ -601,22 +607,23 @@ module _ (turn : Turning) where
             none true = refl
             none false = refl
 
-        pub sofar-last : (stop : OptionIntervention) → stop ≡ stoppedBy e (unitIntervention q part)
+        sofar-last : (last : ℕ) → cond (isErrs e) last 0 ≡ cond (isErrs e) (s .next) 0
+            → (stop : OptionIntervention) → stop ≡ stoppedBy e (unitIntervention q part)
             → (not (isGoing e) || isOff (modeUnder q (controlsOf c′))) ≡ true
             → Walked q t ids₀ entries₀ journal₀
-            (endedBy e (s .next) (visits + 1) (listed + u .ids) (written + u .entries) stop c′) ids′ entries′ journal′
-        sofar-last stop stop-is h =
+            (endedBy e last (visits + 1) (listed + u .ids) (written + u .entries) stop c′) ids′ entries′ journal′
+        sofar-last last last-is-so stop stop-is h =
             let d : visitsFrom q ≡ done′ =
             step ∙ ap (λ (l : List Visit). so .done ++ (v ∷ l))
             (tail-none (not (isGoing e)) (isOff (modeUnder q (controlsOf c′))) refl refl h) in
             let errs : isErrs e ≡ isError (v .ending) = ap isErrs (sym kind-is) ∙ sym (error-kind (v .ending)) in
             let gives : isAllows e ≡ givesAllow (v .ending) = ap isAllows (sym kind-is) ∙ sym (allow-kind (v .ending)) in
             finished q t ids₀ entries₀ journal₀ ids′ entries′ journal′ c′ (visits + 1) (listed + u .ids) (written + u .entries)
-            (s .next) e stop
+            last e stop
             (rw d written-now)
             (rw d became-now)
             (rw (d, answer-after (so .done) (v ∷ []) (so .going)) (ap (λ (b : Bool). cond b 10 0) errs))
-            (rw (d, error-after (so .done) (v ∷ []) (so .going)) (ap (λ (b : Bool). cond b (s .next) 0) errs ∙ index-now))
+            (rw (d, error-after (so .done) (v ∷ []) (so .going)) (last-is-so ∙ (ap (λ (b : Bool). cond b (s .next) 0) errs ∙ index-now)))
             (rw (d, allowed-after (so .done) (v ∷ []) (so .going)) (gives ∙ sym (or-false-is (givesAllow (v .ending)))))
             (rw (d, intervention-after (so .done) (v ∷ []) (so .going))
             (stop-is ∙ (ap (λ (x : Ending). stoppedBy x (unitIntervention q part)) (sym kind-is)
@@ -628,7 +635,7 @@ module _ (turn : Turning) where
                 ap (λ (x : JournalEntry). cond (isError (v .ending)) (x .index) 0)
                 (sym (entry-is q reading (so .members) (controlsOf c) s visits inside found found-is w w-is))
 
-        pub sofar-more : (not (isGoing e) || isOff (modeUnder q (controlsOf c′))) ≡ false
+        sofar-more : (not (isGoing e) || isOff (modeUnder q (controlsOf c′))) ≡ false
             → Sofar q t ids₀ entries₀ journal₀ ids′ entries′ journal′ c′
             (record { next = u .next; chained = w .after .chained; first = w .after .first })
             (visits + 1) (listed + u .ids) (written + u .entries)
@@ -701,32 +708,126 @@ module _ (turn : Turning) where
             entry-now true = omega (arith, first-now, so .entry)
             entry-now false = omega arith
 
-    -- A VISIT THAT LEADS ON
-    led : leadsOn found ≡ true → (w .closes ≡ false) × (ends.isError found ≡ false)
-    led = leads-by found (w .closes) (closes-matched q reading (so .members) (controlsOf c) s visits inside found found-is w w-is)
+    -- A VISIT THAT CLOSES NO UNIT
+    module _ (waits : w .closes ≡ false) where
+      gave-nothing : Gave q (w .closes) part (w .after .next) (drop listed ids) (drop (4 * written) entries) (nothing (w .after .next))
+          (drop listed ids) (drop (4 * written) entries)
+      gave-nothing = gave-none q (w .closes) part (w .after .next) (drop listed ids) (drop (4 * written) entries) waits
 
-    pub sofar-on : leadsOn found ≡ true
-        → Sofar q t ids₀ entries₀ journal₀ ids entries journal′ c (w .after) (visits + 1) listed written
-    sofar-on h =
-        let d = led h in
-        let il : List ℕ = take (length ids - listed) (drop listed ids) in
-        let el : List ℕ = take (length entries - 4 * written) (drop (4 * written) entries) in
-        let u-is = wrote-none q (w .closes) part (w .after .next) il el (d .0) in
-        let same : Became c c (v .after .controls) = changed c (became-none c (w .closes) _ (d .0)) in
-        let ids-same : take listed ids ++ (il ++ drop (length ids - listed) (drop listed ids)) ≡ ids =
-        rw (take-append-drop (length ids - listed) (drop listed ids), take-append-drop listed ids) in
-        let entries-same : take (4 * written) entries ++ (el ++ drop (length entries - 4 * written) (drop (4 * written) entries)) ≡ entries =
-        rw (take-append-drop (length entries - 4 * written) (drop (4 * written) entries), take-append-drop (4 * written) entries) in
-        rw (ids-same, entries-same, add-zero listed, add-zero written) at
-        (sofar-more (record { ids = 0; entries = 0; next = w .after .next; disruptive = DisruptiveOutcome.Nothing }) il el u-is c same
-        Ending.GoesOn (rw (d .1)) (so .not-off))
+      controls-same : Became c c (v .after .controls)
+      controls-same =
+          subst (Became c c)
+          (sym (controls-now ∙ ap (λ (b : Bool). cond b (unitControls q unit (controlsOf c)) (controlsOf c)) waits)) (became-same c)
 
-    pub fewer-left-on : leadsOn found ≡ true → (n : ℕ) → s .next < n → n - w .after .next < n - s .next
-    fewer-left-on h =
-        let il : List ℕ = take (length ids - listed) (drop listed ids) in
-        let el : List ℕ = take (length entries - 4 * written) (drop (4 * written) entries) in
-        fewer-left (record { ids = 0; entries = 0; next = w .after .next; disruptive = DisruptiveOutcome.Nothing }) il el
-        (wrote-none q (w .closes) part (w .after .next) il el (led h .0))
+      -- it leads on, where its rule had no error
+      pub sofar-on : visit.isError found ≡ false
+          → Sofar q t ids₀ entries₀ journal₀ ids entries journal′ c (w .after) (visits + 1) listed written
+      sofar-on h =
+          rw (take-append-drop listed ids, take-append-drop (4 * written) entries, add-zero listed, add-zero written) at
+          (sofar-more (nothing (w .after .next)) (drop listed ids) (drop (4 * written) entries) gave-nothing c controls-same
+          Ending.GoesOn (rw h) (so .not-off))
+
+      pub fewer-left-on : (n : ℕ) → s .next < n → n - w .after .next < n - s .next
+      fewer-left-on = fewer-left (nothing (w .after .next)) (drop listed ids) (drop (4 * written) entries) gave-nothing
+
+    -- A RULE ERROR
+    pub sofar-error : visit.isError found ≡ true
+        → Walked q t ids₀ entries₀ journal₀ (endedBy Ending.Errs (s .next) (visits + 1) listed written OptionIntervention.None c) ids
+        entries journal′
+    sofar-error h =
+        rw (take-append-drop listed ids, take-append-drop (4 * written) entries, add-zero listed, add-zero written) at
+        (sofar-last (nothing (w .after .next)) (drop listed ids) (drop (4 * written) entries) (gave-nothing unclosed) c (controls-same unclosed)
+        Ending.Errs (rw h) (s .next) refl OptionIntervention.None refl refl)
+      where
+        unclosed : w .closes ≡ false
+        unclosed = not-closed (w .closes) refl
+          where
+            not-closed : (b : Bool) → w .closes ≡ b → b ≡ false
+            not-closed false d = refl
+            not-closed true d =
+                absurd (true-false (sym h ∙ ap visit.isError
+                (closes-matched q reading (so .members) (controlsOf c) s visits inside found found-is w w-is d)))
+
+    -- A VISIT THAT CLOSES A UNIT
+    module _ (closes : w .closes ≡ true) (held : Held) (starts ends phases positions : List ℕ)
+        (c-is : c ≡ structOf held starts ends phases positions) where
+      abbrev at : Reached
+      at = record { state = w .after; visits = visits + 1; ids = listed; entries = written; held = held }
+
+      pub room-closed : Room at ids entries journal′
+      room-closed = record { first = part-start; visits = part-end; ids-used = ids-start; entries-used = entries-start }
+
+      module _ (r : AfterUnit) (ids₁ entries₁ starts₁ ends₁ phases₁ positions₁ : List ℕ)
+          (x : UnitClosed q codes at ids entries journal′ starts ends phases positions r ids₁ entries₁ starts₁ ends₁ phases₁ positions₁)
+        where
+          abbrev u : Closed
+          u = x .gave
+
+          gave : Gave q (w .closes) part (w .after .next) (drop listed ids) (drop (4 * written) entries) u (x .free-ids)
+              (x .free-entries)
+          gave = gave-unit q (w .closes) part (w .after .next) (drop listed ids) (drop (4 * written) entries) u (x .free-ids)
+              (x .free-entries) closes (x .wrote)
+
+          abbrev c₁ : Controls
+          c₁ = structOf (x .held) starts₁ ends₁ phases₁ positions₁
+
+          became-unit : Became c c₁ (v .after .controls)
+          became-unit =
+              subst (Became c c₁) (coded-now closes)
+              (subst (λ (y : Controls). Became y c₁ (unitCoded (sourceOf q) codes (q .rules) part (controlsOf y))) (sym c-is)
+              (x .turned .became))
+
+          abbrev mode : RuleEngineMode
+          mode = modeUnder q (controlsOf c₁)
+
+          abbrev e : Ending
+          e = endBy (u .disruptive) mode
+
+          end-now : e ≡ endOf found (u .disruptive) mode
+          end-now =
+              ap (λ (y : Verdict). endOf y (u .disruptive) mode)
+              (sym (closes-matched q reading (so .members) (controlsOf c) s visits inside found found-is w w-is closes))
+
+          pub ids-closed : length ids₁ ≡ length ids₀
+          ids-closed = ap length (x .ids-are) ∙ ids-kept u (x .free-ids) (x .free-entries) gave
+
+          pub entries-closed : length entries₁ ≡ length entries₀
+          entries-closed = ap length (x .entries-are) ∙ entries-kept u (x .free-ids) (x .free-entries) gave
+
+          module _ (next : Reached) (goes-on : r ≡ AfterUnit.GoesOn next) where
+            left : ((not (isGoing e) || isOff mode) ≡ false) × (movedBy at u (x .held) ≡ next)
+            left = left-on (not (isGoing e) || isOff mode) e (movedBy at u (x .held)) (stoppedBy e (unitIntervention q part)) next
+                (sym (x .left-is) ∙ goes-on)
+
+            pub sofar-closed : Sofar q t ids₀ entries₀ journal₀ ids₁ entries₁ journal′
+                (structOf (next .held) starts₁ ends₁ phases₁ positions₁) (next .state) (next .visits) (next .ids) (next .entries)
+            sofar-closed =
+                rw (x .ids-are, x .entries-are)
+                (subst (λ (n : Reached). Sofar q t ids₀ entries₀ journal₀ (take listed ids ++ x .free-ids)
+                (take (4 * written) entries ++ x .free-entries) journal′
+                (structOf (n .held) starts₁ ends₁ phases₁ positions₁) (n .state) (n .visits) (n .ids) (n .entries)) (left .1)
+                (sofar-more u (x .free-ids) (x .free-entries) gave c₁ became-unit e end-now (left .0)))
+
+            pub fewer-left-closed : (n : ℕ) → s .next < n → n - next .state .next < n - s .next
+            fewer-left-closed n h =
+                subst (λ (y : Reached). n - y .state .next < n - s .next) (left .1)
+                (fewer-left u (x .free-ids) (x .free-entries) gave n h)
+
+          pub walked-closed : (end : End) → r ≡ AfterUnit.Ends end
+              → Walked q t ids₀ entries₀ journal₀
+              (endedBy (end .ending) (end .at .state .next) (end .at .visits) (end .at .ids) (end .at .entries) (end .stop)
+              (structOf (end .at .held) starts₁ ends₁ phases₁ positions₁)) ids₁ entries₁ journal′
+          walked-closed end ends-so =
+              let l = left-end (not (isGoing e) || isOff mode) e (movedBy at u (x .held)) (stoppedBy e (unitIntervention q part)) end
+              (sym (x .left-is) ∙ ends-so) in
+              rw (x .ids-are, x .entries-are)
+              (subst (λ (y : End). Walked q t ids₀ entries₀ journal₀
+              (endedBy (y .ending) (y .at .state .next) (y .at .visits) (y .at .ids) (y .at .entries) (y .stop)
+              (structOf (y .at .held) starts₁ ends₁ phases₁ positions₁)) (take listed ids ++ x .free-ids)
+              (take (4 * written) entries ++ x .free-entries) journal′) (l .1)
+              (sofar-last u (x .free-ids) (x .free-entries) gave c₁ became-unit e end-now (u .next)
+              (no-index (u .next) (s .next) (isAllow (u .disruptive)) (isStopping (u .disruptive) && isOn mode))
+              (stoppedBy e (unitIntervention q part)) refl (l .0)))
 
 -- the rule that the loop stands at, by the code's test
 pub inside-rules : (rules : List ℕ) (i : ℕ) → i < length rules / 5 → i < length (ruleList rules)

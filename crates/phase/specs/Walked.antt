@@ -1,22 +1,34 @@
 -- What the walk's function asks, and what it leaves. Only functions that the phase call is made of cite this.
-use Prim.Native.Nat.{ℕ, _+_, _*_, _≤_}
+use Prim.Native.Nat.{ℕ, _+_, _-_, _*_, _≤_}
 use mathlib.Core.Path.{_≡_}
-use mathlib.Core.Bool.{Bool, true, false, cond}
-use mathlib.Core.List.{List}
-use lib.ListN.{length, replicate}
+use mathlib.Core.Bool.{Bool, true, false, cond, not, _||_}
+use mathlib.Core.List.{List, _++_}
+use lib.ListN.{length, take, drop, replicate}
 use Rattle.reading.specs.declared.OptionIntervention.{OptionIntervention}
+use Rattle.reading.specs.declared.RuleEngineMode.{RuleEngineMode}
 use Rattle.reading.specs.Lists.{over}
-use Rattle.reading.specs.Records.{dataWords, journalWords}
+use Rattle.reading.specs.Records.{dataWords, journalWords, journalList, matchedIn}
 use Rattle.reading.specs.Controls.{isOff}
 use Rattle.reading.specs.Call.{Call, ruleCount, modeUnder}
+use Rattle.reading.specs.Units.{unitIntervention}
 use Rattle.reading.specs.Walk.{Visit, walk, start, journalOf, idsOf, dataOf, controlsAfter, allowedBy, interventionBy, answerBy, errorIndexBy}
 use Rattle.reading.specs.Outcome.{atFreeEnd}
 use Rattle.control.specs.declared.Controls.{Controls}
 use Rattle.control.specs.Held.{controlsOf, Became}
 use Rattle.digest.specs.Codes.{codesOf}
+use Rattle.adding.specs.declared.Held.{Held}
+use Rattle.adding.specs.Lent.{structOf}
+use Rattle.coded.specs.Coded.{unitCoded}
+use Rattle.coded.specs.Lent.{Turned}
+use Rattle.unit.specs.declared.Closed.{Closed}
+use Rattle.unit.specs.Closed.{Wrote}
 use Rattle.stopping.specs.declared.Ending.{Ending}
+use Rattle.stopping.specs.Ends.{endBy}
+use Rattle.intervention.specs.Stopped.{stoppedBy}
 use Rattle.phase.specs.declared.Transaction.{Transaction}
 use Rattle.phase.specs.declared.Phase.{Phase}
+use Rattle.phase.specs.declared.Reached.{Reached}
+use Rattle.phase.specs.declared.AfterUnit.{AfterUnit}
 
 -- a transaction without allow and intervention
 abbrev pub fresh : Controls → ℕ → ℕ → Transaction
@@ -42,18 +54,21 @@ pub record Ready (q : Call) (t : Transaction) (codes ids entries journal : List 
   pub targets : length (controlsAfter (controlsOf (t .controls)) (visitsFrom q) .targets) ≤ 64
   pub not-off : isOff (modeUnder q (controlsOf (t .controls))) ≡ false
 
+-- whether the walk goes on, unless the mode is Off
 abbrev pub isGoing : Ending → Bool
 isGoing Ending.GoesOn = true
 isGoing Ending.Allows = false
 isGoing Ending.Errs = false
 isGoing Ending.Stops = false
 
+-- whether it ends with a rule error
 abbrev pub isErrs : Ending → Bool
 isErrs Ending.GoesOn = false
 isErrs Ending.Allows = false
 isErrs Ending.Errs = true
 isErrs Ending.Stops = false
 
+-- whether it ends with an allow
 abbrev pub isAllows : Ending → Bool
 isAllows Ending.GoesOn = false
 isAllows Ending.Allows = true
@@ -80,3 +95,63 @@ pub record Walked (q : Call) (t : Transaction) (ids entries journal : List ℕ) 
   pub controls : Became (t .controls) (r .transaction .controls) (controlsAfter (controlsOf (t .controls)) (visitsFrom q))
   pub allowed : r .transaction .allowed ≡ allowedBy (visitsFrom q)
   pub intervention : r .transaction .intervention ≡ interventionBy (visitsFrom q)
+
+-- how far the walk is before the first rule, with so many ids and data entries in use
+abbrev pub startOf : Controls → ℕ → ℕ → Reached
+startOf c ids entries = record {
+  state = record { next = 0; chained = false; first = 0 };
+  visits = 0;
+  ids = ids;
+  entries = entries;
+  held = record { settings = c .settings; ranges = c .ranges; targets = c .targets };
+}
+
+-- A CLOSED UNIT. `at` is how far the walk is with the visit of the closing rule, before the unit's flow.
+
+-- what closing a unit asks: its entries are in the journal, and no list is shorter than what of it is in use
+pub record Room (at : Reached) (ids entries journal : List ℕ) : Type 0 where
+  pub first : at .state .first ≤ at .visits
+  pub visits : 2 * at .visits ≤ length journal
+  pub ids-used : at .ids ≤ length ids
+  pub entries-used : 4 * at .entries ≤ length entries
+
+-- the unit's members: the matched entries of the journal from its first one on
+abbrev pub membersAt : Reached → List ℕ → List ℕ
+membersAt at journal = matchedIn (journalList (take (2 * at .visits - 2 * at .state .first) (drop (2 * at .state .first) journal)))
+
+-- how far the walk is after a unit that gave so much, with these settings and counts of the controls
+abbrev pub movedBy : Reached → Closed → Held → Reached
+movedBy at gave held = record {
+  state = record { next = gave .next; chained = at .state .chained; first = at .state .first };
+  visits = at .visits;
+  ids = at .ids + gave .ids;
+  entries = at .entries + gave .entries;
+  held = held;
+}
+
+-- where the walk is left so: it ends, where this was the last visit
+abbrev pub leftBy : Bool → Ending → Reached → OptionIntervention → AfterUnit
+leftBy last e at stop = cond last (AfterUnit.Ends (record { ending = e; at = at; stop = stop })) (AfterUnit.GoesOn at)
+
+-- the same by the mode after the unit's controls, the unit's last disruptive action and its intervention
+abbrev pub leftUnder : RuleEngineMode → Call → List ℕ → Reached → Closed → Held → AfterUnit
+leftUnder mode q unit at gave held =
+    let e = endBy (gave .disruptive) mode in
+    leftBy (not (isGoing e) || isOff mode) e (movedBy at gave held) (stoppedBy e (unitIntervention q unit))
+
+-- what closing a unit leaves: `gave` is what the unit gave, and `held` the settings and counts after its controls
+pub record UnitClosed (q : Call) (codes : List ℕ) (at : Reached) (ids entries journal starts ends phases positions : List ℕ) (r : AfterUnit)
+    (ids′ entries′ starts′ ends′ phases′ positions′ : List ℕ) : Type 0 where
+  pub gave : Closed
+  pub held : Held
+  -- the free ends of the two lists after it
+  pub free-ids : List ℕ
+  pub free-entries : List ℕ
+  pub wrote : Wrote q (membersAt at journal) (at .state .next) (drop (at .ids) ids) (drop (4 * at .entries) entries) gave free-ids
+      free-entries
+  pub ids-are : ids′ ≡ take (at .ids) ids ++ free-ids
+  pub entries-are : entries′ ≡ take (4 * at .entries) entries ++ free-entries
+  pub turned : Turned (at .held) starts ends phases positions held starts′ ends′ phases′ positions′
+      (unitCoded (record { phase = q .phase; text = q .text; actions = q .actions }) codes (q .rules) (membersAt at journal)
+      (controlsOf (structOf (at .held) starts ends phases positions)))
+  pub left-is : r ≡ leftUnder (modeUnder q (controlsOf (structOf held starts′ ends′ phases′ positions′))) q (membersAt at journal) at gave held

@@ -1,11 +1,10 @@
-// How a visit leaves the phase (engine/intervention.rs).
+// How a closed unit leaves the phase (engine/intervention.rs).
 use reading::DisruptiveOutcome;
 use reading::RuleEngineMode;
-use reading::Verdict;
 ghost use mathlib.Core.Path.{_≡_};
 ghost use Rattle.reading.specs.Controls.{isOff, isOn};
 ghost use Rattle.reading.specs.Units.{isAllow, isStopping};
-ghost use Rattle.stopping.specs.Ends.{isError, endBy};
+ghost use Rattle.stopping.specs.Ends.{endBy};
 
 // How a visit leaves the phase.
 pub enum Ending {
@@ -34,18 +33,6 @@ fn is_on(mode: RuleEngineMode) -> bool
         RuleEngineMode::On => true,
         RuleEngineMode::DetectionOnly => false, // nothing is stopped
         RuleEngineMode::Off => false,
-    }
-}
-
-// Whether a rule error was found.
-fn is_error(found: Verdict) -> bool
-    ensures { λ r. ⌜ r ≡ isError found ⌝ }
-{
-    match found {
-        Verdict::Missed => false,
-        Verdict::Matched => false,
-        Verdict::Removed => false,
-        Verdict::Error => true,
     }
 }
 
@@ -79,13 +66,10 @@ fn stops(disruptive: DisruptiveOutcome) -> bool
     }
 }
 
-// How a visit leaves the phase, given what was found, the closed unit's last disruptive action (or `Nothing`), and the mode.
-pub fn end_of(found: Verdict, disruptive: DisruptiveOutcome, mode: RuleEngineMode) -> Ending
-    ensures { λ r. ⌜ r ≡ endBy found disruptive mode ⌝ }
+// How a closed unit leaves the phase, given its last disruptive action (or `Nothing`) and the mode.
+pub fn end_of(disruptive: DisruptiveOutcome, mode: RuleEngineMode) -> Ending
+    ensures { λ r. ⌜ r ≡ endBy disruptive mode ⌝ }
 {
-    if is_error(found) {
-        return Ending::Errs;
-    }
     // allow takes effect in any mode
     if allows(disruptive) {
         return Ending::Allows;

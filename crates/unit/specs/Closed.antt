@@ -1,7 +1,6 @@
 -- What closing a unit answers and writes.
 use Prim.Native.Nat.{ℕ, _+_, _*_, _/_, min}
 use mathlib.Core.Path.{_≡_}
-use mathlib.Core.Bool.{Bool, cond}
 use mathlib.Core.List.{List, [], _∷_}
 use lib.Dec.{ltb, eqb}
 use lib.ListN.{length, take, getD}
@@ -9,7 +8,6 @@ use lib.Seq.{sets}
 use Rattle.reading.specs.declared.OptionU64.{OptionU64}
 use Rattle.reading.specs.declared.Rule.{Rule}
 use Rattle.reading.specs.declared.DataEntry.{DataEntry}
-use Rattle.reading.specs.declared.DisruptiveOutcome.{DisruptiveOutcome}
 use Rattle.reading.specs.Lists.{keep, over}
 use Rattle.reading.specs.Records.{dataWords}
 use Rattle.reading.specs.Numbers.{presentNumber, numberOrZero}
@@ -41,12 +39,12 @@ pub record Listed (all : List DataEntry) (before : List ℕ) (count : ℕ) (afte
   pub count-is : count ≡ length (take (length before / 4) all)
   pub words : after ≡ over before (dataWords (take (length before / 4) all))
 
--- Of a unit, if it closes; `behind` is the index behind its closing rule. Ids and data entries are written from the start of
--- the lent parts, as many as fit; an accepted call has room for all.
-pub record Wrote (q : Call) (closes : Bool) (unit : List ℕ) (behind : ℕ) (ids entries : List ℕ) (r : Closed) (ids′ entries′ : List ℕ) : Type 0 where
-  pub id-count : r .ids ≡ length (take (length ids) (keep closes (unitIds q unit)))
-  pub ids-are : ids′ ≡ over ids (take (length ids) (keep closes (unitIds q unit)))
-  pub entry-count : r .entries ≡ length (take (length entries / 4) (keep closes (unitData q unit)))
-  pub entries-are : entries′ ≡ over entries (dataWords (take (length entries / 4) (keep closes (unitData q unit))))
-  pub next-is : r .next ≡ cond closes (min (afterFlow q behind (unitFlow q unit)) (ruleCount q)) behind
-  pub disruptive-is : r .disruptive ≡ cond closes (unitDisruptive q unit) DisruptiveOutcome.Nothing
+-- Of a closed unit; `behind` is the index after its closing rule. Ids and data entries are written from the start of the lent
+-- parts, as many as fit; an accepted call has room for all.
+pub record Wrote (q : Call) (unit : List ℕ) (behind : ℕ) (ids entries : List ℕ) (r : Closed) (ids′ entries′ : List ℕ) : Type 0 where
+  pub id-count : r .ids ≡ length (take (length ids) (unitIds q unit))
+  pub ids-are : ids′ ≡ over ids (take (length ids) (unitIds q unit))
+  pub entry-count : r .entries ≡ length (take (length entries / 4) (unitData q unit))
+  pub entries-are : entries′ ≡ over entries (dataWords (take (length entries / 4) (unitData q unit)))
+  pub next-is : r .next ≡ min (afterFlow q behind (unitFlow q unit)) (ruleCount q)
+  pub disruptive-is : r .disruptive ≡ unitDisruptive q unit

@@ -115,9 +115,8 @@ fn put_entries(
     w
 }
 
-// Closes a unit, or nothing.
+// Closes a unit. `behind` is the index after its closing rule.
 pub fn close_unit(
-    closes: bool,
     behind: usize,
     phase: u64,
     members: &[u64],
@@ -130,29 +129,22 @@ pub fn close_unit(
     entries: &mut [u64],
 ) -> Closed
     ensures { λ r. ⌜ ((rest : Rest) → Wrote (callWith phase (now (rules .entry)) (now (actions .entry)) (now (markers .entry)) (now (text .entry)) (now (outcomes .entry)) rest)
-        closes (matchedIn (journalList (now (members .entry)))) behind (now (ids .entry)) (now (entries .entry)) r (now (ids .exit)) (now (entries .exit))) ⌝ }
+        (matchedIn (journalList (now (members .entry)))) behind (now (ids .entry)) (now (entries .entry)) r (now (ids .exit)) (now (entries .exit))) ⌝ }
 {
-    if closes {
-        let starter = ruleset::rule_at(rules, members::starter_of(members) as usize);
-        let id = ruleset::rule_id(starter);
-        let listed = put_id(id, ids);
-        let written = put_entries(phase, id, members, rules, outcomes, entries);
-        let mut none = [0u64; 1];
-        let acts = actions::execute_actions(actions, starter, phase, &mut none[1..]);
-        let flow = acts.flow;
-        let disruptive = acts.disruptive;
-        let next = flow::after_flow(flow, behind, rules, actions, markers, text);
-        return Closed {
-            ids: listed,
-            entries: written,
-            next,
-            disruptive,
-        };
-    }
+    let starter = ruleset::rule_at(rules, members::starter_of(members) as usize);
+    let id = ruleset::rule_id(starter);
+    let listed = put_id(id, ids);
+    let written = put_entries(phase, id, members, rules, outcomes, entries);
+    // the positions of the control actions are not asked for here
+    let mut none = [0u64; 1];
+    let acts = actions::execute_actions(actions, starter, phase, &mut none[1..]);
+    let flow = acts.flow;
+    let disruptive = acts.disruptive;
+    let next = flow::after_flow(flow, behind, rules, actions, markers, text);
     Closed {
-        ids: 0,
-        entries: 0,
-        next: behind,
-        disruptive: DisruptiveOutcome::Nothing,
+        ids: listed,
+        entries: written,
+        next,
+        disruptive,
     }
 }

@@ -38,9 +38,9 @@ foundAt rules at visits found =
     (eqb (getD rules (at .next) noRule .link) 1))
     (passed found (at .next) (at .chained) (entryBy at visits))
 
--- missed or removed: such a visit closes no unit and ends nothing
-abbrev pub leadsOn : Verdict → Bool
-leadsOn Verdict.Missed = true
-leadsOn Verdict.Matched = false
-leadsOn Verdict.Removed = true
-leadsOn Verdict.Error = false
+-- a rule error
+abbrev pub isError : Verdict → Bool
+isError Verdict.Missed = false
+isError Verdict.Matched = false
+isError Verdict.Removed = false
+isError Verdict.Error = true

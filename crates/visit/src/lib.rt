@@ -10,7 +10,7 @@ ghost use Rattle.reading.specs.Call.{noRule, recordId};
 ghost use Rattle.reading.specs.Numbers.{verdictNumber};
 ghost use Rattle.reading.specs.Records.{ruleList};
 ghost use Rattle.reading.specs.Walk.{verdictBy};
-ghost use Rattle.visit.specs.Found.{entryBy, passed, foundBy, foundAt, leadsOn};
+ghost use Rattle.visit.specs.Found.{entryBy, passed, foundBy, foundAt, isError};
 
 // Where the walk stands. `next` is the index that it goes on with, so a pending skip is part of it. `first` is the place in
 // the journal of the open chain's first entry, if a chain is open.
@@ -148,15 +148,15 @@ pub fn visit(rules: &[u64], at: State, visits: usize, found: Verdict) -> Visited
     }
 }
 
-// Whether a visit does nothing but lead on: the rule was missed or removed. Most are, and then nothing is closed and nothing ends.
-pub fn leads_on(v: Visited) -> bool
-    ensures { λ r. ⌜ r ≡ leadsOn (v .verdict) ⌝ }
+// Whether a visit met a rule error, which ends the walk.
+pub fn is_error(v: Visited) -> bool
+    ensures { λ r. ⌜ r ≡ isError (v .verdict) ⌝ }
 {
     let verdict = v.verdict;
     match verdict {
-        Verdict::Missed => true,
+        Verdict::Missed => false,
         Verdict::Matched => false,
-        Verdict::Removed => true,
-        Verdict::Error => false,
+        Verdict::Removed => false,
+        Verdict::Error => true,
     }
 }

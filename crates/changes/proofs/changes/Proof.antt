@@ -2,7 +2,6 @@
 use borrow.Author.Needs.{needs}
 use Prim.Native.Nat.{_-_, _≤_}
 use mathlib.Core.Path.{_≡_, refl, sym, ap, _∙_}
-use borrow.Author.Tests.{not-true, not-false}
 use native.Mathlib.Omega.{arith}
 use Rattle.reading.specs.Records.{ruleList, journalList, matchedIn}
 use Rattle.changes.specs.Changes.{unitChanges}
@@ -11,15 +10,12 @@ use Rattle.changes.proofs.changes.Statement.{statement}
 use Rattle.changes.proofs.changes.Tie as tie
 
 abbrev Inv-loop : tie.InvT-loop
-Inv-loop closes entries rules codes n i₀ i =
+Inv-loop entries rules codes n i₀ i =
     (i ≤ n) × (unitChanges codes (ruleList rules) (membersFrom entries i) ≡ unitChanges codes (ruleList rules)
     (matchedIn (journalList entries)))
 
 abbrev μ-loop : tie.MeasureT-loop
-μ-loop closes entries rules codes n i₀ i = n - i
-
-returns : tie.Need-returns Inv-loop μ-loop
-returns c = rw (not-true (c .before .before .before .before .args .closes) (c .if1 .taken))
+μ-loop entries rules codes n i₀ i = n - i
 
 loop-holds : tie.Need-loop-holds Inv-loop μ-loop
 loop-holds c = (omega arith, refl)
@@ -48,13 +44,12 @@ shared-slice-read-entry-changes-2 c = omega arith
 entry-changes-requires : tie.Need-entry-changes-requires Inv-loop μ-loop
 entry-changes-requires c κs = search needs
 
-returns-2 : tie.Need-returns-2 Inv-loop μ-loop
-returns-2 c =
+returns : tie.Need-returns Inv-loop μ-loop
+returns c =
     let l = c .before .before .before .before .before in
-    let given = l .before .before .before .before .before .args in
-    rw (not-false (given .closes) (l .before .if1 .left))
-    (unit-found _ (ruleList (given .rules .now)) _ (l .loop .i) _ _ (omega arith) (l .loop .inv .1)
-    (c .before .entry-changes .ensures) (c .if2 .taken))
+    let given = l .before .before .before .before .args in
+    unit-found _ (ruleList (given .rules .now)) _ (l .loop .i) _ _ (omega arith) (l .loop .inv .1)
+    (c .before .entry-changes .ensures) (c .if1 .taken)
 
 add-i : tie.Need-add-i Inv-loop μ-loop
 add-i c = omega arith
@@ -65,19 +60,18 @@ loop-less c = omega arith
 loop-again : tie.Need-loop-again Inv-loop μ-loop
 loop-again c =
     let l = c .before .before .before .before .before in
-    let given = l .before .before .before .before .before .args in (
+    let given = l .before .before .before .before .args in (
       omega arith,
       unit-more _ (ruleList (given .rules .now)) _ (l .loop .i) _ _ (omega arith) (l .loop .inv .1)
-          (c .before .entry-changes .ensures) (c .if2 .left),
+          (c .before .entry-changes .ensures) (c .if1 .left),
     )
 
-returns-3 : tie.Need-returns-3 Inv-loop μ-loop
-returns-3 c =
+returns-2 : tie.Need-returns-2 Inv-loop μ-loop
+returns-2 c =
     let l = c .before in
-    let given = l .before .before .before .before .before .args in
-    rw (not-false (given .closes) (l .before .if1 .left))
-    (sym (ap (unitChanges (given .codes .now) (ruleList (given .rules .now))) (members-end _ (l .loop .i) (omega arith))) ∙ l
-    .loop .inv .1)
+    let given = l .before .before .before .before .args in
+    sym (ap (unitChanges (given .codes .now) (ruleList (given .rules .now))) (members-end _ (l .loop .i) (omega arith))) ∙ l
+    .loop .inv .1
 
 pub changes-spec : {M : Type 1} → statement M
 changes-spec =
@@ -85,7 +79,6 @@ changes-spec =
     (tie.spec
     Inv-loop
     μ-loop
-    returns
     loop-holds
     mul-entry-changes
     mul-entry-changes-2
@@ -95,8 +88,8 @@ changes-spec =
     mul-entry-changes-4
     shared-slice-read-entry-changes-2
     entry-changes-requires
-    returns-2
+    returns
     add-i
     loop-less
     loop-again
-    returns-3)
+    returns-2)

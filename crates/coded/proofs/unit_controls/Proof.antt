@@ -1,14 +1,14 @@
 -- `coded::unit_controls` meets its contract.
-use mathlib.Core.Path.{_≡_, sym}
-use mathlib.Core.Bool.{true, false, not, cond}
+use mathlib.Core.Path.{_≡_, sym, _∙_}
+use mathlib.Core.Bool.{true, not}
+use borrow.Author.Tests.{not-true}
 use denote.Ref.{now}
 use Rattle.reading.specs.Records.{ruleList, actionList, journalList, matchedIn}
-use Rattle.reading.specs.Controls.{Controls}
 use Rattle.control.specs.Held.{controlsOf}
-use Rattle.coded.specs.Coded.{Source, unitCoded}
 use Rattle.adding.specs.Lent.{structOf}
+use Rattle.coded.specs.Coded.{unitCoded}
 use Rattle.coded.proofs.LentLaws.{left-same, turned-same, turned-as}
-use Rattle.coded.proofs.Fits.{after-idle, after-changed}
+use Rattle.coded.proofs.Fits.{unit-idle}
 use borrow.Author.Needs.{needs}
 use Rattle.coded.proofs.unit_controls.Statement.{statement}
 use Rattle.coded.proofs.unit_controls.Tie as tie
@@ -16,30 +16,19 @@ use Rattle.coded.proofs.unit_controls.Tie as tie
 changes-requires : tie.Need-changes-requires
 changes-requires c κs = tt
 
--- the place where the unit's actions were asked, and the start, seen from it
-abbrev entered : tie.After-changes → tie.Start
-entered c = c .before .before .before .before .before .before .before .before .before .before
-
--- what the actions do
-abbrev source : tie.After-changes → Source
-source c = record { phase = entered c .args .phase; text = now (entered c .args .text); actions = actionList (now (entered c .args .actions)) }
-
-abbrev held-at : tie.After-changes → Controls
-held-at c = controlsOf (structOf (entered c .args .h) (now (entered c .args .starts)) (now (entered c .args .ends)) (now (entered c .args .phases)) (now (entered c .args .positions)))
-
-idle : (c : tie.After-changes) → not (c .changes .result) ≡ true → cond (entered c .args .closes) (unitCoded (source c) (now (entered c .args .codes))
-    (ruleList (now (entered c .args .rules))) (matchedIn (journalList (now (entered c .args .entries)))) (held-at c)) (held-at c) ≡ held-at c
-idle c e = after-idle (source c) (now (entered c .args .codes)) (ruleList (now (entered c .args .rules))) (matchedIn (journalList (now (entered c .args .entries))))
-    (held-at c) (entered c .args .closes) (c .changes .result) (c .changes .ensures) e
-
-changed : (c : tie.After-changes) → not (c .changes .result) ≡ false → cond (entered c .args .closes) (unitCoded (source c) (now (entered c .args .codes))
-    (ruleList (now (entered c .args .rules))) (matchedIn (journalList (now (entered c .args .entries)))) (held-at c)) (held-at c)
-    ≡ unitCoded (source c) (now (entered c .args .codes)) (ruleList (now (entered c .args .rules))) (matchedIn (journalList (now (entered c .args .entries)))) (held-at c)
-changed c e = after-changed (source c) (now (entered c .args .codes)) (ruleList (now (entered c .args .rules))) (matchedIn (journalList (now (entered c .args .entries))))
-    (held-at c) (entered c .args .closes) (c .changes .result) (c .changes .ensures) e
+-- where no action of the unit changes the controls
+idle : (c : tie.After-changes) → not (c .changes .result) ≡ true
+    → (let a = c .before .before .before .before .before .before .before .before .before .before .args in
+    let held = controlsOf (structOf (a .h) (now (a .starts)) (now (a .ends)) (now (a .phases)) (now (a .positions))) in
+    held ≡ unitCoded (record { phase = a .phase; text = now (a .text); actions = actionList (now (a .actions)) }) (now (a .codes))
+    (ruleList (now (a .rules))) (matchedIn (journalList (now (a .entries)))) held)
+idle c e =
+    let a = c .before .before .before .before .before .before .before .before .before .before .args in
+    sym (unit-idle _ (now (a .codes)) (ruleList (now (a .rules))) (matchedIn (journalList (now (a .entries)))) _
+    (sym (c .changes .ensures) ∙ not-true (c .changes .result) e))
 
 returns : tie.Need-returns
-returns c = (λ w. turned-as (turned-same _ _ _ _ _ w) (sym (idle (c .before) (c .if1 .taken))), λ n. left-same _ _ _ _ _)
+returns c = (λ w. turned-as (turned-same _ _ _ _ _ w) (idle (c .before) (c .if1 .taken)), λ n. left-same _ _ _ _ _)
 
 returns-2 : tie.Need-returns-2
 returns-2 c = (λ w. absurd (c .if2 .taken (w .starts-256)), λ n. left-same _ _ _ _ _)
@@ -70,7 +59,7 @@ same-length-4 c = search needs
 
 returns-6 : tie.Need-returns-6
 returns-6 c = (
-  λ w. turned-as (c .before .before .before .before .before .before .before .before .members-controls .ensures) (sym (changed (c .before .before .before .before .before .before .before .before .before .before .before .before .before .before .before .before .before .before) (c .before .before .before .before .before .before .before .before .before .before .before .before .before .before .before .before .before .if1 .left))),
+  λ w. c .before .before .before .before .before .before .before .before .members-controls .ensures,
   λ n. absurd (n (record {
     starts-256 = c .before .before .before .before .before .before .before .before .before .before .before .before .before .before
         .before .before .if2 .left;

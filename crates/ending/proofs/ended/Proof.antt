@@ -13,7 +13,9 @@ gives-allow-requires : tie.Need-gives-allow-requires
 gives-allow-requires c κs = search needs
 
 returns : tie.Need-returns
-returns c = rw (c .before .before .before .answer-of .ensures, c .before .before .error-of .ensures, c .before .gives-allow .ensures)
+returns c =
+    let allowed = c .before .before in
+    rw (allowed .before .before .answer-of .ensures, allowed .before .error-of .ensures, allowed .gives-allow .ensures)
 
 pub ended-spec : {M : Type 1} → statement M
 ended-spec = tie.close (tie.spec answer-of-requires error-of-requires gives-allow-requires returns)

@@ -22,7 +22,7 @@ returns : tie.Need-returns
 returns c =
     let mode = c .before .before .mode-under in
     let a = c .before .before .before .before .args in (
-      c .before .end-of .ensures ∙ ap (endBy (a .v .verdict) (a .u .disruptive)) (mode .ensures),
+      c .before .end-of .ensures ∙ ap (endBy (a .u .disruptive)) (mode .ensures),
       c .is-last .ensures
           ∙ ap (λ (m : RuleEngineMode). not (isGoing (c .before .end-of .result)) || isOff m) (mode .ensures),
     )

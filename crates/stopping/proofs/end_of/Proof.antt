@@ -3,9 +3,6 @@ use borrow.Author.Needs.{needs}
 use Rattle.stopping.proofs.end_of.Statement.{statement}
 use Rattle.stopping.proofs.end_of.Tie as tie
 
-is-error-requires : tie.Need-is-error-requires
-is-error-requires c κs = search needs
-
 returns : tie.Need-returns
 returns c = search needs
 
@@ -27,19 +24,14 @@ returns-3 c = search needs
 returns-4 : tie.Need-returns-4
 returns-4 c = search needs
 
-returns-5 : tie.Need-returns-5
-returns-5 c = search needs
-
 pub end-of-spec : {M : Type 1} → statement M
 end-of-spec =
     tie.close
     (tie.spec
-    is-error-requires
-    returns
     allows-requires
-    returns-2
+    returns
     stops-requires
     is-on-requires
+    returns-2
     returns-3
-    returns-4
-    returns-5)
+    returns-4)

@@ -196,7 +196,7 @@ returns-4 c =
     let w = c .before .before .before .before .before .before .walk-rules in
     let b = c .before .before .before .before .before .before .before .before .before .before .before .before .before in
     let p = b .before in
-    let lists = w .last .1 .1 .1 .1 .1 .1 .1 .1 .1 .1 .1 .1 in
+    let lists = w .last .1 .1 .1 .1 .1 .1 .1 .1 .1 .1 in
     ran-at (given-idle p) (passed (past-nine p)) (idle p ∙ b .if3 .left)
     (w .result) (lists .0) (lists .1 .0) (lists .1 .1 .0) (w .ensures)
 

@@ -37,8 +37,8 @@ mul-journal-2 c = search needs
 
 slice-write-journal-2 : tie.Need-slice-write-journal-2
 slice-write-journal-2 c =
-    let s = c .before .before .before .before .before in
-    lt-length-set (now (s .args .journal)) (2 * s .args .visits) _ (omega (arith, s .pre))
+    let s = c .before .before .before .before .before .before in
+    lt-length-set (now (s .args .journal)) (2 * s .args .at .visits) _ (omega (arith, s .pre))
 
 visit-requires : tie.Need-visit-requires
 visit-requires c κs = search needs
@@ -50,13 +50,13 @@ returns : tie.Need-returns
 returns c =
     let found = c .before .before .verdict-at .result in
     let number = c .before .verdict-number in
-    let s = c .before .before .before .before .before .before in
+    let s = c .before .before .before .before .before .before .before in
     let a = s .args in (
       c .visit .ensures ∙ rw (c .before .before .verdict-at .ensures),
-      put-at (2 * a .visits) (now (a .journal)) (a .at .next) (number .result) (s .pre)
-          ∙ ap (λ (n : ℕ). atFreeEnd (2 * a .visits) (now (a .journal)) (a .at .next ∷ n ∷ []))
+      put-at (2 * a .at .visits) (now (a .journal)) (a .at .state .next) (number .result) (s .pre)
+          ∙ ap (λ (n : ℕ). atFreeEnd (2 * a .at .visits) (now (a .journal)) (a .at .state .next ∷ n ∷ []))
           (number .ensures ∙ ap verdictNumber
-          (sym (visit-verdict (ruleList (now (a .rules))) (a .at) (a .visits) found (c .visit .result) (c .visit .ensures)))),
+          (sym (visit-verdict (ruleList (now (a .rules))) (a .at .state) (a .at .visits) found (c .visit .result) (c .visit .ensures)))),
     )
 
 pub visit-next-spec : {M : Type 1} → statement M

@@ -1,32 +1,32 @@
 -- `transaction::walk_rules` meets its contract.
-use Prim.Native.Nat.{_-_, _*_, _/_, _≤_, _<_, _^_}
-use mathlib.Core.Path.{_≡_, refl, sym, ap, _∙_}
-use mathlib.Core.Bool.{Bool, true, false, not, _||_}
+use Prim.Native.Nat.{ℕ, _+_, _-_, _*_, _/_, _≤_, _<_, _^_}
+use mathlib.Core.Path.{_≡_, refl, sym, ap, subst, _∙_}
+use mathlib.Core.Bool.{true, false}
+use mathlib.Core.List.{List}
 use native.Mathlib.Omega.{arith}
-use native.Mathlib.Nat.{le-refl}
+use borrow.Author.Tests.{not-true, not-false}
+use borrow.Author.Needs.{needs}
 use denote.Ref.{now}
 use lib.ListN.{length, length-map}
-use Rattle.reading.specs.declared.RuleEngineMode.{RuleEngineMode}
-use Rattle.reading.specs.Controls.{isOff, modeOr}
-use Rattle.reading.specs.Call.{Call, modeUnder}
-use Rattle.reading.specs.Walk.{verdictAt, visitAt}
-use Rattle.control.specs.Held.{controlsOf, Became}
+use Rattle.reading.specs.Call.{Call}
+use Rattle.reading.specs.Walk.{verdictAt}
+use Rattle.control.specs.Held.{controlsOf}
 use Rattle.control.specs.declared.Controls.{Controls}
 use Rattle.adding.specs.Lent.{structOf}
 use Rattle.coded.specs.Lent.{Whole}
-use Rattle.stopping.specs.Ends.{endBy}
 use Rattle.members.specs.Given.{Rest}
 use Rattle.visit.specs.declared.Visited.{Visited}
-use Rattle.visit.specs.Found.{foundAt, leadsOn}
+use Rattle.visit.specs.Found.{foundAt, isError}
+use Rattle.phase.specs.declared.Phase.{Phase}
+use Rattle.phase.specs.declared.Reached.{Reached}
 use Rattle.phase.specs.declared.Transaction.{Transaction}
 use Rattle.phase.specs.Phase.{callOf}
-use Rattle.phase.specs.Walked.{fresh, isGoing}
-use Rattle.phase.proofs.Found.{verdict-found, visit-found, mode-law}
+use Rattle.phase.specs.Walked.{fresh, Ready, Walked, endedBy, UnitClosed}
+use Rattle.phase.proofs.Found.{verdict-found, visit-found}
 use Rattle.phase.proofs.Progress.{Sofar, sofar-none, sofar-end, few-ranges, journal-same, ids-same, entries-same}
-use Rattle.phase.proofs.Turn.{Turning, inside-rules, behind-rules, journal-ahead, ids-start, entries-start, part-start, part-end}
-use Rattle.phase.proofs.Turn.{visits-fit, from-fits, from-fits-bytes, to-fits, listed-fits, written-fits, written-fits-bytes}
-use Rattle.phase.proofs.Turn.{listed-now-fits, written-now-fits, fewer-left, journal-kept, ids-kept, entries-kept, changed}
-use Rattle.phase.proofs.Turn.{sofar-last, sofar-more, sofar-on, fewer-left-on}
+use Rattle.phase.proofs.Turn.{Turning, inside-rules, behind-rules, journal-ahead, visits-fit, journal-long}
+use Rattle.phase.proofs.Turn.{sofar-on, fewer-left-on, sofar-error, room-closed, ids-closed, entries-closed}
+use Rattle.phase.proofs.Turn.{sofar-closed, fewer-left-closed, walked-closed}
 use Rattle.transaction.proofs.walk_rules.Statement.{statement}
 use Rattle.transaction.proofs.walk_rules.Tie as tie
 
@@ -42,17 +42,18 @@ restOf q = record {
 }
 
 abbrev Inv-loop : tie.InvT-loop
-Inv-loop listed-before written-before phase mode status rules actions markers text outcomes codes ids₀ entries₀ journal₀
-    ruleset-mode n starts₀ ends₀ phases₀ positions₀ h₀ s₀ visits₀ listed₀ written₀ ids entries journal starts ends phases
-    positions h s visits listed written = let t = fresh (structOf h₀ starts₀ ends₀ phases₀ positions₀) listed₀ written₀ in
-    Sofar (callOf phase mode status rules actions markers text outcomes t ids₀ entries₀ journal₀) t ids₀ entries₀ journal₀ ids
-    entries journal (structOf h starts ends phases positions) s visits listed written
+Inv-loop listed-before written-before call rules actions markers text outcomes codes ids₀ entries₀ journal₀ starts₀ ends₀ phases₀ positions₀
+    at₀ n ids entries journal starts ends phases positions at =
+    let t = fresh (structOf (at₀ .held) starts₀ ends₀ phases₀ positions₀) listed-before written-before in
+    Sofar (callOf (call .phase) (call .mode) (call .status) rules actions markers text outcomes t ids₀ entries₀ journal₀) t ids₀
+    entries₀ journal₀ ids entries journal (structOf (at .held) starts ends phases positions) (at .state) (at .visits) (at .ids)
+    (at .entries)
     × Whole starts ends phases positions
 
 abbrev μ-loop : tie.MeasureT-loop
-μ-loop listed-before written-before phase mode status rules actions markers text outcomes codes ids₀ entries₀ journal₀
-    ruleset-mode n starts₀ ends₀ phases₀ positions₀ h₀ s₀ visits₀ listed₀ written₀ ids entries journal starts ends phases
-    positions h s visits listed written = length rules / 5 - s .next
+μ-loop listed-before written-before call rules actions markers text outcomes codes ids₀ entries₀ journal₀ starts₀ ends₀ phases₀ positions₀
+    at₀ n ids entries journal starts ends phases positions at =
+    length rules / 5 - at .state .next
 
 -- the arrays of a struct have their lengths
 arrays-whole : (c : tie.Start Inv-loop μ-loop) → Whole (c .args .held .starts) (c .args .held .ends) (c .args .held .phases)
@@ -64,79 +65,95 @@ arrays-whole c = record {
   positions-64 = sym (length-map (c .args .held .positions) _) ∙ c .good .0 .1 .1 .1 .1 .1 .1 .1 .0 .1 .0 .1;
 }
 
--- the lists are in memory
+-- the journal is in memory
 journal-small : (c : tie.Start Inv-loop μ-loop) → 8 * length (now (c .args .journal)) < 2 ^ 64
-journal-small c = omega (arith, c .good .1 .1 .1 .1 .1 .1 .1 .1 .1 .1 .1 .1 .1 .1 .0 .1)
-
-ids-small : (c : tie.Start Inv-loop μ-loop) → 8 * length (now (c .args .ids)) < 2 ^ 64
-ids-small c = omega (arith, c .good .1 .1 .1 .1 .1 .1 .1 .1 .1 .1 .1 .1 .0 .1)
-
-entries-small : (c : tie.Start Inv-loop μ-loop) → 8 * length (now (c .args .entries)) < 2 ^ 64
-entries-small c = omega (arith, c .good .1 .1 .1 .1 .1 .1 .1 .1 .1 .1 .1 .1 .1 .0 .1)
+journal-small c = omega (arith, c .good .1 .1 .1 .1 .1 .1 .1 .1 .1 .1 .1 .1 .0 .1)
 
 -- earlier places, seen from later ones
-abbrev entered : tie.At-loop Inv-loop μ-loop → tie.Start Inv-loop μ-loop
-entered c = c .before .before .before .before .before .before .before .before .before .before .before .before .before .before .before .before
-
-abbrev head : tie.Then1 Inv-loop μ-loop → tie.At-loop Inv-loop μ-loop
-head c = c .before .before
+abbrev entered : tie.After-start Inv-loop μ-loop → tie.Start Inv-loop μ-loop
+entered c = c .before .before .before .before .before .before .before .before .before .before .before .before .before .before
 
 abbrev turning : tie.After-visit-next Inv-loop μ-loop → tie.Then1 Inv-loop μ-loop
 turning c = c .before .before .before .before
 
-abbrev seen : tie.After-struct-known2 Inv-loop μ-loop → tie.After-visit-next Inv-loop μ-loop
-seen c = c .before .before .before .before .before
+abbrev head : tie.Then1 Inv-loop μ-loop → tie.At-loop Inv-loop μ-loop
+head c = c .before .before
 
-abbrev visited : tie.After-close-unit Inv-loop μ-loop → tie.After-visit-next Inv-loop μ-loop
-visited c = seen (c .before .before .before .before .before)
+abbrev visited : tie.After-is-error Inv-loop μ-loop → tie.After-visit-next Inv-loop μ-loop
+visited c = c .before .before .before .before
 
-abbrev closed : tie.After-unit-controls Inv-loop μ-loop → tie.After-close-unit Inv-loop μ-loop
-closed c = c .before .before .before .before .before .before .before .before .before .before .before
+abbrev closing : tie.After-close Inv-loop μ-loop → tie.Else3 Inv-loop μ-loop
+closing c = c .before .before .before .before .before .before .before .before
 
-abbrev settled : tie.After-turn-end Inv-loop μ-loop → tie.After-unit-controls Inv-loop μ-loop
-settled c = c .before .before .before .before .before
+-- the call and the transaction, by the controls at the start
+abbrev callBy : tie.Start Inv-loop μ-loop → Controls → Call
+callBy c held =
+    let a = c .args in
+    callOf (a .call .phase) (a .call .mode) (a .call .status) (now (a .rules)) (now (a .actions)) (now (a .markers)) (now (a .text))
+    (now (a .outcomes)) (fresh held (a .listed-before) (a .written-before)) (now (a .ids)) (now (a .entries)) (now (a .journal))
 
--- the controls that the locals make up, at the head of a turn and after its unit
-abbrev held-at : (c : tie.At-loop Inv-loop μ-loop) → Controls
-held-at c = structOf (c .loop .h) (c .loop .starts) (c .loop .ends) (c .loop .phases) (c .loop .positions)
+-- the controls that `start` and the arrays make up are those that were passed
+abbrev first : tie.After-start Inv-loop μ-loop → Controls
+first c =
+    let held = entered c .args .held in
+    structOf (c .start .result .held) (held .starts) (held .ends) (held .phases) (held .positions)
 
-abbrev held-now : (c : tie.After-unit-controls Inv-loop μ-loop) → Controls
-held-now c = structOf (c .unit-controls .result) (c .unit-controls .last .1 .1 .1 .1 .1 .1 .1 .1 .0) (c .unit-controls .last .1 .1 .1 .1 .1 .1 .1 .1 .1 .0)
-    (c .unit-controls .last .1 .1 .1 .1 .1 .1 .1 .1 .1 .1 .0) (c .unit-controls .last .1 .1 .1 .1 .1 .1 .1 .1 .1 .1 .1 .0)
+first-is : (c : tie.After-start Inv-loop μ-loop) → first c ≡ entered c .args .held
+first-is c =
+    let held = entered c .args .held in
+    ap (λ (r : Reached). structOf (r .held) (held .starts) (held .ends) (held .phases) (held .positions)) (c .start .ensures)
 
--- the call and the transaction, at the head of a turn
-abbrev T : (c : tie.At-loop Inv-loop μ-loop) → Transaction
-T c = fresh (entered c .args .held) (entered c .args .listed-before) (entered c .args .written-before)
+abbrev T : tie.After-start Inv-loop μ-loop → Transaction
+T c = fresh (first c) (entered c .args .listed-before) (entered c .args .written-before)
 
-abbrev Q : (c : tie.At-loop Inv-loop μ-loop) → Call
-Q c =
+abbrev Q : tie.After-start Inv-loop μ-loop → Call
+Q c = callBy (entered c) (first c)
+
+ready : (c : tie.After-start Inv-loop μ-loop) → Ready (Q c) (T c) (now (entered c .args .codes)) (now (entered c .args .ids))
+    (now (entered c .args .entries)) (now (entered c .args .journal))
+ready c =
     let a = entered c .args in
-    callOf (a .phase) (a .mode) (a .status) (now (a .rules)) (now (a .actions)) (now (a .markers)) (now (a .text))
-    (now (a .outcomes)) (T c) (now (a .ids)) (now (a .entries)) (now (a .journal))
+    subst (λ (y : Controls). Ready (callBy (entered c) y) (fresh y (a .listed-before) (a .written-before)) (now (a .codes))
+    (now (a .ids)) (now (a .entries)) (now (a .journal))) (sym (first-is c)) (entered c .pre)
+
+walked : (c : tie.After-start Inv-loop μ-loop) (r : Phase) (ids entries journal : List ℕ)
+    → Walked (Q c) (T c) (now (entered c .args .ids)) (now (entered c .args .entries)) (now (entered c .args .journal)) r ids entries
+    journal
+    → (let a = entered c .args in
+    Walked (callBy (entered c) (a .held)) (fresh (a .held) (a .listed-before) (a .written-before)) (now (a .ids)) (now (a .entries))
+    (now (a .journal)) r ids entries journal)
+walked c r ids entries journal =
+    let a = entered c .args in
+    subst (λ (y : Controls). Walked (callBy (entered c) y) (fresh y (a .listed-before) (a .written-before)) (now (a .ids))
+    (now (a .entries)) (now (a .journal)) r ids entries journal) (first-is c)
+
+-- the controls that the locals make up, at the head of a turn
+abbrev held-at : (c : tie.At-loop Inv-loop μ-loop) → Controls
+held-at c = structOf (c .loop .at .held) (c .loop .starts) (c .loop .ends) (c .loop .phases) (c .loop .positions)
 
 -- the turn, given what is found of its rule
 abbrev turn-by : (c : tie.Then1 Inv-loop μ-loop) (w : Visited)
-    → w .verdict ≡ verdictAt (Q (head c)) (controlsOf (held-at (head c))) (head c .loop .s .next)
-    → w ≡ foundAt (Q (head c) .rules) (head c .loop .s) (head c .loop .visits) (w .verdict) → Turning
+    → w .verdict ≡ verdictAt (Q (head c .before)) (controlsOf (held-at (head c))) (head c .loop .at .state .next)
+    → w ≡ foundAt (Q (head c .before) .rules) (head c .loop .at .state) (head c .loop .at .visits) (w .verdict) → Turning
 turn-by c w found-is w-is = record {
-  q = Q (head c);
-  t = T (head c);
-  codes = now (entered (head c) .args .codes);
-  ids₀ = now (entered (head c) .args .ids);
-  entries₀ = now (entered (head c) .args .entries);
-  journal₀ = now (entered (head c) .args .journal);
-  ready = entered (head c) .pre;
+  q = Q (head c .before);
+  t = T (head c .before);
+  codes = now (entered (head c .before) .args .codes);
+  ids₀ = now (entered (head c .before) .args .ids);
+  entries₀ = now (entered (head c .before) .args .entries);
+  journal₀ = now (entered (head c .before) .args .journal);
+  ready = ready (head c .before);
   reading = refl;
   ids = head c .loop .ids;
   entries = head c .loop .entries;
   journal = head c .loop .journal;
   c = held-at (head c);
-  s = head c .loop .s;
-  visits = head c .loop .visits;
-  listed = head c .loop .listed;
-  written = head c .loop .written;
+  s = head c .loop .at .state;
+  visits = head c .loop .at .visits;
+  listed = head c .loop .at .ids;
+  written = head c .loop .at .entries;
   so = head c .loop .inv .0;
-  inside = inside-rules (now (entered (head c) .args .rules)) (head c .loop .s .next) (c .if1 .taken);
+  inside = inside-rules (now (entered (head c .before) .args .rules)) (head c .loop .at .state .next) (c .if1 .taken);
   found = w .verdict;
   found-is = found-is;
   w = w;
@@ -145,277 +162,250 @@ turn-by c w found-is w-is = record {
 
 few : (c : tie.At-loop Inv-loop μ-loop) → held-at c .ranges ≤ 256
 few c =
-    few-ranges (Q c) (T c) (now (entered c .args .codes)) (now (entered c .args .ids)) (now (entered c .args .entries))
-    (now (entered c .args .journal)) (entered c .pre)
-    (c .loop .ids) (c .loop .entries) (c .loop .journal) (held-at c) (c .loop .s) (c .loop .visits) (c .loop .listed)
-    (c .loop .written) (c .loop .inv .0)
+    few-ranges (Q (c .before)) (T (c .before)) (now (entered (c .before) .args .codes)) (now (entered (c .before) .args .ids))
+    (now (entered (c .before) .args .entries)) (now (entered (c .before) .args .journal)) (ready (c .before))
+    (c .loop .ids) (c .loop .entries) (c .loop .journal) (held-at c) (c .loop .at .state) (c .loop .at .visits) (c .loop .at .ids)
+    (c .loop .at .entries) (c .loop .inv .0)
 
 -- the turn, where its rule has been visited
 abbrev turn : (c : tie.After-visit-next Inv-loop μ-loop) → Turning
 turn c =
     let h = head (turning c) in
     turn-by (turning c) (c .visit-next .result)
-    (verdict-found (Q h) (held-at h) (h .loop .s) (h .loop .visits) (few h) (c .visit-next .result) (c .visit-next .ensures .0))
-    (visit-found (Q h) (held-at h) (h .loop .s) (h .loop .visits) (few h) (c .visit-next .result) (c .visit-next .ensures .0))
+    (verdict-found (Q (h .before)) (held-at h) (h .loop .at .state) (h .loop .at .visits) (few h) (c .visit-next .result)
+    (c .visit-next .ensures .0))
+    (visit-found (Q (h .before)) (held-at h) (h .loop .at .state) (h .loop .at .visits) (few h) (c .visit-next .result)
+    (c .visit-next .ensures .0))
 
--- a visit that leads on, seen from where it has
-abbrev passed : tie.After-after Inv-loop μ-loop → tie.After-visit-next Inv-loop μ-loop
-passed c = c .before .before .before .before .before
-
-on : (c : tie.After-after Inv-loop μ-loop) → leadsOn (passed c .visit-next .result .verdict) ≡ true
-on c = sym (c .before .before .leads-on .ensures) ∙ c .before .if2 .taken
+-- the journal with its visit
+abbrev journal-with : (c : tie.After-visit-next Inv-loop μ-loop) → List ℕ
+journal-with c = c .visit-next .last .1 .1 .1 .1 .1 .0
 
 -- the lists at the head of a turn
-journal-as-lent : (c : tie.At-loop Inv-loop μ-loop) → length (c .loop .journal) ≡ length (now (entered c .args .journal))
+journal-as-lent : (c : tie.At-loop Inv-loop μ-loop) → length (c .loop .journal) ≡ length (now (entered (c .before) .args .journal))
 journal-as-lent c =
     journal-same
-    (Q c) (T c) (now (entered c .args .codes)) (now (entered c .args .ids)) (now (entered c .args .entries))
-    (now (entered c .args .journal)) (entered c .pre)
-    (c .loop .ids) (c .loop .entries) (c .loop .journal) (held-at c) (c .loop .s) (c .loop .visits) (c .loop .listed)
-    (c .loop .written) (c .loop .inv .0)
+    (Q (c .before)) (T (c .before)) (now (entered (c .before) .args .codes)) (now (entered (c .before) .args .ids))
+    (now (entered (c .before) .args .entries)) (now (entered (c .before) .args .journal)) (ready (c .before))
+    (c .loop .ids) (c .loop .entries) (c .loop .journal) (held-at c) (c .loop .at .state) (c .loop .at .visits) (c .loop .at .ids)
+    (c .loop .at .entries) (c .loop .inv .0)
 
-ids-as-lent : (c : tie.At-loop Inv-loop μ-loop) → length (c .loop .ids) ≡ length (now (entered c .args .ids))
+ids-as-lent : (c : tie.At-loop Inv-loop μ-loop) → length (c .loop .ids) ≡ length (now (entered (c .before) .args .ids))
 ids-as-lent c =
     ids-same
-    (Q c) (T c) (now (entered c .args .codes)) (now (entered c .args .ids)) (now (entered c .args .entries))
-    (now (entered c .args .journal)) (entered c .pre)
-    (c .loop .ids) (c .loop .entries) (c .loop .journal) (held-at c) (c .loop .s) (c .loop .visits) (c .loop .listed)
-    (c .loop .written) (c .loop .inv .0)
+    (Q (c .before)) (T (c .before)) (now (entered (c .before) .args .codes)) (now (entered (c .before) .args .ids))
+    (now (entered (c .before) .args .entries)) (now (entered (c .before) .args .journal)) (ready (c .before))
+    (c .loop .ids) (c .loop .entries) (c .loop .journal) (held-at c) (c .loop .at .state) (c .loop .at .visits) (c .loop .at .ids)
+    (c .loop .at .entries) (c .loop .inv .0)
 
-entries-as-lent : (c : tie.At-loop Inv-loop μ-loop) → length (c .loop .entries) ≡ length (now (entered c .args .entries))
+entries-as-lent : (c : tie.At-loop Inv-loop μ-loop) → length (c .loop .entries) ≡ length (now (entered (c .before) .args .entries))
 entries-as-lent c =
     entries-same
-    (Q c) (T c) (now (entered c .args .codes)) (now (entered c .args .ids)) (now (entered c .args .entries))
-    (now (entered c .args .journal)) (entered c .pre)
-    (c .loop .ids) (c .loop .entries) (c .loop .journal) (held-at c) (c .loop .s) (c .loop .visits) (c .loop .listed)
-    (c .loop .written) (c .loop .inv .0)
+    (Q (c .before)) (T (c .before)) (now (entered (c .before) .args .codes)) (now (entered (c .before) .args .ids))
+    (now (entered (c .before) .args .entries)) (now (entered (c .before) .args .journal)) (ready (c .before))
+    (c .loop .ids) (c .loop .entries) (c .loop .journal) (held-at c) (c .loop .at .state) (c .loop .at .visits) (c .loop .at .ids)
+    (c .loop .at .entries) (c .loop .inv .0)
 
--- the controls, the mode and the ending
-controls-now : (c : tie.After-unit-controls Inv-loop μ-loop) → Became (held-at (head (turning (visited (closed c))))) (held-now c)
-    (visitAt (Q (head (turning (visited (closed c)))))
-    (record {
-      next = head (turning (visited (closed c))) .loop .s .next;
-      members = head (turning (visited (closed c))) .loop .inv .0 .members;
-      controls = controlsOf (held-at (head (turning (visited (closed c)))));
-    }) .after .controls)
-controls-now c =
-    changed (turn (visited (closed c))) (visited (closed c) .visit-next .last .1 .1 .1 .1 .1 .1 .1 .0) (visited (closed c) .visit-next .ensures .1) (held-now c)
-    (c .unit-controls .ensures .0 (head (turning (visited (closed c))) .loop .inv .1) .became)
-
-whole-now : (c : tie.After-unit-controls Inv-loop μ-loop) → Whole (held-now c .starts) (held-now c .ends) (held-now c .phases) (held-now c .positions)
-whole-now c = c .unit-controls .ensures .0 (head (turning (visited (closed c))) .loop .inv .1) .whole
-
-mode-is : (c : tie.After-turn-end Inv-loop μ-loop)
-    → modeOr (head (turning (visited (closed (settled c)))) .before .before .before .before .before .before .mode-numbered .result) (held-now (settled c) .settings .mode)
-    ≡ modeUnder (Q (head (turning (visited (closed (settled c)))))) (controlsOf (held-now (settled c)))
-mode-is c =
-    mode-law (Q (head (turning (visited (closed (settled c)))))) (held-now (settled c))
-    (head (turning (visited (closed (settled c)))) .before .before .before .before .before .before .mode-numbered .result) _
-    (head (turning (visited (closed (settled c)))) .before .before .before .before .before .before .mode-numbered .ensures) refl
-
-end-is : (c : tie.After-turn-end Inv-loop μ-loop)
-    → c .turn-end .result .ending ≡ endBy (visited (closed (settled c)) .visit-next .result .verdict)
-    (closed (settled c) .close-unit .result .disruptive)
-    (modeUnder (Q (head (turning (visited (closed (settled c)))))) (controlsOf (held-now (settled c))))
-end-is c =
-    c .turn-end .ensures .0
-    ∙ ap (endBy (visited (closed (settled c)) .visit-next .result .verdict) (closed (settled c) .close-unit .result .disruptive)) (mode-is c)
-
-last-by : (c : tie.After-turn-end Inv-loop μ-loop) (b : Bool) → c .turn-end .result .last ≡ b
-    → (not (isGoing (c .turn-end .result .ending)) || isOff
-    (modeUnder (Q (head (turning (visited (closed (settled c)))))) (controlsOf (held-now (settled c))))) ≡ b
-last-by c b e =
-    ap (λ (m : RuleEngineMode). not (isGoing (c .turn-end .result .ending)) || isOff m) (sym (mode-is c)) ∙ (sym (c .turn-end .ensures .1) ∙ e)
-
-mode-numbered-requires : tie.Need-mode-numbered-requires Inv-loop μ-loop
-mode-numbered-requires c κs = tt
+start-requires : tie.Need-start-requires Inv-loop μ-loop
+start-requires c κs = tt
 
 loop-holds : tie.Need-loop-holds Inv-loop μ-loop
-loop-holds c = let a = c .before .before .before .before .before .before .before .before .before .before .before .before .before .before .before .args in
-    let t = fresh (a .held) (a .listed-before) (a .written-before) in (
-      sofar-none (callOf (a .phase) (a .mode) (a .status) (now (a .rules)) (now (a .actions)) (now (a .markers)) (now (a .text))
-          (now (a .outcomes)) t (now (a .ids)) (now (a .entries)) (now (a .journal)))
-          t (now (a .codes)) (now (a .ids)) (now (a .entries)) (now (a .journal)) refl (c .before .before .before .before .before .before .before .before .before .before .before .before .before .before .before .pre),
-      arrays-whole (c .before .before .before .before .before .before .before .before .before .before .before .before .before .before .before),
+loop-holds c =
+    let a = entered c .args in (
+      subst (λ (r : Reached). Sofar (Q c) (T c) (now (a .ids)) (now (a .entries)) (now (a .journal)) (now (a .ids)) (now (a .entries))
+          (now (a .journal)) (first c) (r .state) (r .visits) (r .ids) (r .entries)) (sym (c .start .ensures))
+          (sofar-none (Q c) (T c) (now (a .codes)) (now (a .ids)) (now (a .entries)) (now (a .journal)) refl (ready c)),
+      arrays-whole (entered c),
     )
 
 visit-next-requires : tie.Need-visit-next-requires Inv-loop μ-loop
 visit-next-requires c κs =
     let h = c .before .before .before .before .before in
-    journal-ahead (Q h) (T h) (now (entered h .args .codes)) (now (entered h .args .ids)) (now (entered h .args .entries))
-    (now (entered h .args .journal)) (entered h .pre) refl
-    (h .loop .ids) (h .loop .entries) (h .loop .journal) (held-at h) (h .loop .s) (h .loop .visits) (h .loop .listed)
-    (h .loop .written) (h .loop .inv .0) (inside-rules (now (entered h .args .rules)) (h .loop .s .next) (c .before .before .before .if1 .taken))
+    let a = entered (h .before) .args in
+    journal-ahead (Q (h .before)) (T (h .before)) (now (a .codes)) (now (a .ids)) (now (a .entries)) (now (a .journal))
+    (ready (h .before)) refl (h .loop .ids) (h .loop .entries) (h .loop .journal) (held-at h) (h .loop .at .state)
+    (h .loop .at .visits) (h .loop .at .ids) (h .loop .at .entries) (h .loop .inv .0)
+    (inside-rules (now (a .rules)) (h .loop .at .state .next) (c .before .before .before .if1 .taken))
 
-add-visits : tie.Need-add-visits Inv-loop μ-loop
-add-visits c = visits-fit (turn (c .before .before)) (journal-small (entered (head (turning (c .before .before)))))
+add-at : tie.Need-add-at Inv-loop μ-loop
+add-at c = let v = c .before .before .before in visits-fit (turn v) (journal-small (entered (head (turning v) .before)))
 
-leads-on-requires : tie.Need-leads-on-requires Inv-loop μ-loop
-leads-on-requires c κs = tt
+is-error-requires : tie.Need-is-error-requires Inv-loop μ-loop
+is-error-requires c κs = tt
 
-loop-less : tie.Need-loop-less Inv-loop μ-loop
-loop-less c =
-    fewer-left-on (turn (passed c)) (passed c .visit-next .last .1 .1 .1 .1 .1 .1 .1 .0) (passed c .visit-next .ensures .1) (on c)
-    (length (now (entered (head (turning (passed c))) .args .rules)) / 5) (turning (passed c) .if1 .taken)
+-- AN ERROR
 
-loop-again : tie.Need-loop-again Inv-loop μ-loop
-loop-again c = (
-  sofar-on (turn (passed c)) (passed c .visit-next .last .1 .1 .1 .1 .1 .1 .1 .0) (passed c .visit-next .ensures .1) (on c),
-  head (turning (passed c)) .loop .inv .1,
-)
-
-mul-from : tie.Need-mul-from Inv-loop μ-loop
-mul-from c = from-fits (turn (seen c)) ((seen c) .visit-next .last .1 .1 .1 .1 .1 .1 .1 .0) ((seen c) .visit-next .ensures .1) (journal-small (entered (head (turning (seen c)))))
-
-mul-to : tie.Need-mul-to Inv-loop μ-loop
-mul-to c = to-fits (turn (seen c)) (journal-small (entered (head (turning (seen c)))))
-
-mul-members : tie.Need-mul-members Inv-loop μ-loop
-mul-members c = from-fits-bytes (turn (seen c)) ((seen c) .visit-next .last .1 .1 .1 .1 .1 .1 .1 .0) ((seen c) .visit-next .ensures .1) (journal-small (entered (head (turning (seen c)))))
-
-sub-members : tie.Need-sub-members Inv-loop μ-loop
-sub-members c = part-start (turn (seen c)) ((seen c) .visit-next .last .1 .1 .1 .1 .1 .1 .1 .0) ((seen c) .visit-next .ensures .1)
-
-part-members-start : tie.Need-part-members-start Inv-loop μ-loop
-part-members-start c = part-start (turn (seen (c .before))) ((seen (c .before)) .visit-next .last .1 .1 .1 .1 .1 .1 .1 .0) ((seen (c .before)) .visit-next .ensures .1)
-
-part-members-end : tie.Need-part-members-end Inv-loop μ-loop
-part-members-end c = part-end (turn (seen (c .before))) ((seen (c .before)) .visit-next .last .1 .1 .1 .1 .1 .1 .1 .0) ((seen (c .before)) .visit-next .ensures .1)
-
-mul-free : tie.Need-mul-free Inv-loop μ-loop
-mul-free c = written-fits (turn (seen (c .before .before))) (entries-small (entered (head (turning (seen (c .before .before))))))
-
-mul-close-unit : tie.Need-mul-close-unit Inv-loop μ-loop
-mul-close-unit c = listed-fits (turn (seen (c .before .before))) (ids-small (entered (head (turning (seen (c .before .before))))))
-
-sub-close-unit : tie.Need-sub-close-unit Inv-loop μ-loop
-sub-close-unit c = ids-start (turn (seen (c .before .before)))
-
-part-close-unit-start : tie.Need-part-close-unit-start Inv-loop μ-loop
-part-close-unit-start c = ids-start (turn (seen (c .before .before)))
-
-part-close-unit-end : tie.Need-part-close-unit-end Inv-loop μ-loop
-part-close-unit-end c = le-refl _
-
-mul-close-unit-2 : tie.Need-mul-close-unit-2 Inv-loop μ-loop
-mul-close-unit-2 c = written-fits-bytes (turn (seen (c .before .before .before))) (entries-small (entered (head (turning (seen (c .before .before .before))))))
-
-sub-close-unit-2 : tie.Need-sub-close-unit-2 Inv-loop μ-loop
-sub-close-unit-2 c = entries-start (turn (seen (c .before .before .before)))
-
-part-close-unit-start-2 : tie.Need-part-close-unit-start-2 Inv-loop μ-loop
-part-close-unit-start-2 c = entries-start (turn (seen (c .before .before .before)))
-
-part-close-unit-end-2 : tie.Need-part-close-unit-end-2 Inv-loop μ-loop
-part-close-unit-end-2 c = le-refl _
-
-close-unit-requires : tie.Need-close-unit-requires Inv-loop μ-loop
-close-unit-requires c κs = tt
-
-add-listed : tie.Need-add-listed Inv-loop μ-loop
-add-listed c =
-    listed-now-fits (turn (visited (c .before .before .before .before .before))) (visited (c .before .before .before .before .before) .visit-next .last .1 .1 .1 .1 .1 .1 .1 .0) (visited (c .before .before .before .before .before) .visit-next .ensures .1)
-    ((c .before .before .before .before .before) .close-unit .result) ((c .before .before .before .before .before) .close-unit .last .1 .1 .1 .1 .1 .1 .1 .1 .1 .0) ((c .before .before .before .before .before) .close-unit .last .1 .1 .1 .1 .1 .1 .1 .1 .1 .1 .0)
-    ((c .before .before .before .before .before) .close-unit .ensures (restOf (Q (head (turning (visited (c .before .before .before .before .before)))))))
-    (ids-small (entered (head (turning (visited (c .before .before .before .before .before))))))
-
-add-written : tie.Need-add-written Inv-loop μ-loop
-add-written c =
-    written-now-fits (turn (visited (c .before .before .before .before .before .before))) (visited (c .before .before .before .before .before .before) .visit-next .last .1 .1 .1 .1 .1 .1 .1 .0) (visited (c .before .before .before .before .before .before) .visit-next .ensures .1)
-    ((c .before .before .before .before .before .before) .close-unit .result) ((c .before .before .before .before .before .before) .close-unit .last .1 .1 .1 .1 .1 .1 .1 .1 .1 .0) ((c .before .before .before .before .before .before) .close-unit .last .1 .1 .1 .1 .1 .1 .1 .1 .1 .1 .0)
-    ((c .before .before .before .before .before .before) .close-unit .ensures (restOf (Q (head (turning (visited (c .before .before .before .before .before .before)))))))
-    (entries-small (entered (head (turning (visited (c .before .before .before .before .before .before))))))
-
-slice-aggregate-unit-controls : tie.Need-slice-aggregate-unit-controls Inv-loop μ-loop
-slice-aggregate-unit-controls c = sym (head (turning (visited (c .before .before .before .before .before .before .before))) .loop .inv .1 .starts-256)
-
-slice-aggregate-unit-controls-2 : tie.Need-slice-aggregate-unit-controls-2 Inv-loop μ-loop
-slice-aggregate-unit-controls-2 c = sym (head (turning (visited (c .before .before .before .before .before .before .before .before))) .loop .inv .1 .ends-256)
-
-slice-aggregate-unit-controls-3 : tie.Need-slice-aggregate-unit-controls-3 Inv-loop μ-loop
-slice-aggregate-unit-controls-3 c = sym (head (turning (visited (c .before .before .before .before .before .before .before .before .before))) .loop .inv .1 .phases-64)
-
-slice-aggregate-unit-controls-4 : tie.Need-slice-aggregate-unit-controls-4 Inv-loop μ-loop
-slice-aggregate-unit-controls-4 c = sym (head (turning (visited (c .before .before .before .before .before .before .before .before .before .before))) .loop .inv .1 .positions-64)
-
-unit-controls-requires : tie.Need-unit-controls-requires Inv-loop μ-loop
-unit-controls-requires c κs = tt
-
-turn-end-requires : tie.Need-turn-end-requires Inv-loop μ-loop
-turn-end-requires c κs = tt
-
-stopped-requires : tie.Need-stopped-requires Inv-loop μ-loop
-stopped-requires c κs = tt
+end-at-requires : tie.Need-end-at-requires Inv-loop μ-loop
+end-at-requires c κs = tt
 
 ended-requires : tie.Need-ended-requires Inv-loop μ-loop
 ended-requires c κs = tt
 
 same-length : tie.Need-same-length Inv-loop μ-loop
-same-length c =
-    ids-kept (turn (visited (closed (settled (c .before .before .before))))) (visited (closed (settled (c .before .before .before))) .visit-next .last .1 .1 .1 .1 .1 .1 .1 .0) (visited (closed (settled (c .before .before .before))) .visit-next .ensures .1)
-    ((closed (settled (c .before .before .before))) .close-unit .result) ((closed (settled (c .before .before .before))) .close-unit .last .1 .1 .1 .1 .1 .1 .1 .1 .1 .0) ((closed (settled (c .before .before .before))) .close-unit .last .1 .1 .1 .1 .1 .1 .1 .1 .1 .1 .0)
-    ((closed (settled (c .before .before .before))) .close-unit .ensures (restOf (Q (head (turning (visited (closed (settled (c .before .before .before)))))))))
+same-length c = ids-as-lent (head (turning (visited (c .before .before .before))))
 
 same-length-2 : tie.Need-same-length-2 Inv-loop μ-loop
-same-length-2 c =
-    entries-kept (turn (visited (closed (settled (c .before .before .before))))) (visited (closed (settled (c .before .before .before))) .visit-next .last .1 .1 .1 .1 .1 .1 .1 .0) (visited (closed (settled (c .before .before .before))) .visit-next .ensures .1)
-    ((closed (settled (c .before .before .before))) .close-unit .result) ((closed (settled (c .before .before .before))) .close-unit .last .1 .1 .1 .1 .1 .1 .1 .1 .1 .0) ((closed (settled (c .before .before .before))) .close-unit .last .1 .1 .1 .1 .1 .1 .1 .1 .1 .1 .0)
-    ((closed (settled (c .before .before .before))) .close-unit .ensures (restOf (Q (head (turning (visited (closed (settled (c .before .before .before)))))))))
+same-length-2 c = entries-as-lent (head (turning (visited (c .before .before .before))))
 
 same-length-3 : tie.Need-same-length-3 Inv-loop μ-loop
-same-length-3 c =
-    journal-kept (turn (visited (closed (settled (c .before .before .before))))) (visited (closed (settled (c .before .before .before))) .visit-next .last .1 .1 .1 .1 .1 .1 .1 .0) (visited (closed (settled (c .before .before .before))) .visit-next .ensures .1)
-    ((closed (settled (c .before .before .before))) .close-unit .result) ((closed (settled (c .before .before .before))) .close-unit .last .1 .1 .1 .1 .1 .1 .1 .1 .1 .0) ((closed (settled (c .before .before .before))) .close-unit .last .1 .1 .1 .1 .1 .1 .1 .1 .1 .1 .0)
-    ((closed (settled (c .before .before .before))) .close-unit .ensures (restOf (Q (head (turning (visited (closed (settled (c .before .before .before)))))))))
+same-length-3 c = let v = visited (c .before .before .before) in journal-long (turn v) (journal-with v) (v .visit-next .ensures .1)
 
 returns : tie.Need-returns Inv-loop μ-loop
 returns c =
-    rw (c .ended .ensures)
-    (sofar-last (turn (visited (closed (settled (c .before .before .before))))) (visited (closed (settled (c .before .before .before))) .visit-next .last .1 .1 .1 .1 .1 .1 .1 .0) (visited (closed (settled (c .before .before .before))) .visit-next .ensures .1)
-    ((closed (settled (c .before .before .before))) .close-unit .result) ((closed (settled (c .before .before .before))) .close-unit .last .1 .1 .1 .1 .1 .1 .1 .1 .1 .0) ((closed (settled (c .before .before .before))) .close-unit .last .1 .1 .1 .1 .1 .1 .1 .1 .1 .1 .0)
-    ((closed (settled (c .before .before .before))) .close-unit .ensures (restOf (Q (head (turning (visited (closed (settled (c .before .before .before)))))))))
-    (held-now (settled (c .before .before .before))) (controls-now (settled (c .before .before .before))) ((c .before .before .before) .turn-end .result .ending) (end-is (c .before .before .before))
-    (c .before .stopped .result)
-    (c .before .stopped .ensures (now (entered (head (turning (visited (closed (settled (c .before .before .before)))))) .args .markers)) (now (entered (head (turning (visited (closed (settled (c .before .before .before)))))) .args .text)) (now (entered (head (turning (visited (closed (settled (c .before .before .before)))))) .args .outcomes))
-    (restOf (Q (head (turning (visited (closed (settled (c .before .before .before)))))))) refl)
-    (last-by (c .before .before .before) true (c .before .before .if3 .taken)))
+    let e = c .before .before .before in
+    let v = visited e in
+    rw (c .ended .ensures, c .before .end-at .ensures)
+    (walked (head (turning v) .before) _ _ _ _
+    (sofar-error (turn v) (journal-with v) (v .visit-next .ensures .1) (sym (e .is-error .ensures) ∙ c .before .before .if2 .taken)))
 
-loop-less-2 : tie.Need-loop-less-2 Inv-loop μ-loop
-loop-less-2 c =
-    fewer-left (turn (visited (closed (settled (c .before))))) (visited (closed (settled (c .before))) .visit-next .last .1 .1 .1 .1 .1 .1 .1 .0) (visited (closed (settled (c .before))) .visit-next .ensures .1)
-    ((closed (settled (c .before))) .close-unit .result) ((closed (settled (c .before))) .close-unit .last .1 .1 .1 .1 .1 .1 .1 .1 .1 .0) ((closed (settled (c .before))) .close-unit .last .1 .1 .1 .1 .1 .1 .1 .1 .1 .1 .0)
-    ((closed (settled (c .before))) .close-unit .ensures (restOf (Q (head (turning (visited (closed (settled (c .before)))))))))
-    (length (now (entered (head (turning (visited (closed (settled (c .before)))))) .args .rules)) / 5) (turning (visited (closed (settled (c .before)))) .if1 .taken)
+-- NO UNIT IS CLOSED
 
-loop-again-2 : tie.Need-loop-again-2 Inv-loop μ-loop
-loop-again-2 c = (
-  sofar-more (turn (visited (closed (settled (c .before))))) (visited (closed (settled (c .before))) .visit-next .last .1 .1 .1 .1 .1 .1 .1 .0) (visited (closed (settled (c .before))) .visit-next .ensures .1)
-      ((closed (settled (c .before))) .close-unit .result) ((closed (settled (c .before))) .close-unit .last .1 .1 .1 .1 .1 .1 .1 .1 .1 .0) ((closed (settled (c .before))) .close-unit .last .1 .1 .1 .1 .1 .1 .1 .1 .1 .1 .0)
-      ((closed (settled (c .before))) .close-unit .ensures (restOf (Q (head (turning (visited (closed (settled (c .before)))))))))
-      (held-now (settled (c .before))) (controls-now (settled (c .before))) (c .before .turn-end .result .ending) (end-is (c .before))
-      (last-by (c .before) false (c .if3 .left)),
-  whole-now (settled (c .before)),
-)
+loop-less : tie.Need-loop-less Inv-loop μ-loop
+loop-less c =
+    let v = visited (c .before .before .before .before) in
+    fewer-left-on (turn v) (journal-with v) (v .visit-next .ensures .1) (not-true (v .visit-next .result .closes) (c .if3 .taken))
+    (length (now (entered (head (turning v) .before) .args .rules)) / 5) (turning v .if1 .taken)
+
+loop-again : tie.Need-loop-again Inv-loop μ-loop
+loop-again c =
+    let e = c .before .before .before .before in
+    let v = visited e in (
+      sofar-on (turn v) (journal-with v) (v .visit-next .ensures .1) (not-true (v .visit-next .result .closes) (c .if3 .taken))
+          (sym (e .is-error .ensures) ∙ c .before .before .before .if2 .left),
+      head (turning v) .loop .inv .1,
+    )
+
+-- A UNIT IS CLOSED
+
+abbrev at-else : tie.Else3 Inv-loop μ-loop → tie.After-visit-next Inv-loop μ-loop
+at-else c = visited (c .before .before .before .before)
+
+closes : (c : tie.Else3 Inv-loop μ-loop) → at-else c .visit-next .result .closes ≡ true
+closes c = not-false (at-else c .visit-next .result .closes) (c .if3 .left)
+
+slice-aggregate-close : tie.Need-slice-aggregate-close Inv-loop μ-loop
+slice-aggregate-close c = sym (head (turning (at-else (c .before .before .before .before))) .loop .inv .1 .starts-256)
+
+slice-aggregate-close-2 : tie.Need-slice-aggregate-close-2 Inv-loop μ-loop
+slice-aggregate-close-2 c = sym (head (turning (at-else (c .before .before .before .before .before))) .loop .inv .1 .ends-256)
+
+slice-aggregate-close-3 : tie.Need-slice-aggregate-close-3 Inv-loop μ-loop
+slice-aggregate-close-3 c = sym (head (turning (at-else (c .before .before .before .before .before .before))) .loop .inv .1 .phases-64)
+
+slice-aggregate-close-4 : tie.Need-slice-aggregate-close-4 Inv-loop μ-loop
+slice-aggregate-close-4 c = sym (head (turning (at-else (c .before .before .before .before .before .before .before))) .loop .inv .1 .positions-64)
+
+close-requires : tie.Need-close-requires Inv-loop μ-loop
+close-requires c κs =
+    let x = c .before .before .before .before .before .before .before in
+    let v = at-else x in
+    let l = head (turning v) .loop in (
+      room-closed (turn v) (journal-with v) (v .visit-next .ensures .1) (closes x) (l .at .held) (l .starts) (l .ends) (l .phases)
+          (l .positions) refl,
+      l .inv .1,
+    )
+
+-- what closing it left
+unit-closed : (c : tie.After-close Inv-loop μ-loop)
+    → (let v = at-else (closing c) in
+    let l = head (turning v) .loop in
+    let after = c .close .last .1 .1 .1 .1 .1 .1 .1 .1 in
+    let w = v .visit-next .result in
+    UnitClosed (Q (head (turning v) .before)) (now (entered (head (turning v) .before) .args .codes))
+    (record { state = w .after; visits = l .at .visits + 1; ids = l .at .ids; entries = l .at .entries; held = l .at .held })
+    (l .ids) (l .entries) (journal-with v) (l .starts) (l .ends) (l .phases) (l .positions) (c .close .result)
+    (after .0) (after .1 .0) (after .1 .1 .1 .0) (after .1 .1 .1 .1 .0) (after .1 .1 .1 .1 .1 .0) (after .1 .1 .1 .1 .1 .1 .0))
+unit-closed c = c .close .ensures (restOf (Q (head (turning (at-else (closing c))) .before))) refl refl
+
+enum-known-left : tie.Need-enum-known-left Inv-loop μ-loop
+enum-known-left c = search needs
+
+enum-known-left-2 : tie.Need-enum-known-left-2 Inv-loop μ-loop
+enum-known-left-2 c = search needs
 
 ended-requires-2 : tie.Need-ended-requires-2 Inv-loop μ-loop
 ended-requires-2 c κs = tt
 
 same-length-4 : tie.Need-same-length-4 Inv-loop μ-loop
-same-length-4 c = ids-as-lent (c .before .before .before)
+same-length-4 c = let k = c .before .before .before .before .before .before .before .before .before .before .before .before in
+    let x = closing k in
+    let v = at-else x in
+    let l = head (turning v) .loop in
+    ids-closed (turn v) (journal-with v) (v .visit-next .ensures .1) (closes x) (l .at .held) (l .starts) (l .ends) (l .phases)
+    (l .positions) refl _ _ _ _ _ _ _ (unit-closed k)
 
 same-length-5 : tie.Need-same-length-5 Inv-loop μ-loop
-same-length-5 c = entries-as-lent (c .before .before .before)
+same-length-5 c = let k = c .before .before .before .before .before .before .before .before .before .before .before .before in
+    let x = closing k in
+    let v = at-else x in
+    let l = head (turning v) .loop in
+    entries-closed (turn v) (journal-with v) (v .visit-next .ensures .1) (closes x) (l .at .held) (l .starts) (l .ends) (l .phases)
+    (l .positions) refl _ _ _ _ _ _ _ (unit-closed k)
 
 same-length-6 : tie.Need-same-length-6 Inv-loop μ-loop
-same-length-6 c = journal-as-lent (c .before .before .before)
+same-length-6 c =
+    let v = at-else (closing (c .before .before .before .before .before .before .before .before .before .before .before .before)) in
+    journal-long (turn v) (journal-with v) (v .visit-next .ensures .1)
 
 returns-2 : tie.Need-returns-2 Inv-loop μ-loop
 returns-2 c =
-    let h = c .before .before .before in
+    let k = c .before .before .before .before .before .before .before .before .before .before .before .before in
+    let x = closing k in
+    let v = at-else x in
+    let l = head (turning v) .loop in
     rw (c .ended2 .ensures)
-    (sofar-end (Q h) (T h) (now (entered h .args .ids)) (now (entered h .args .entries)) (now (entered h .args .journal))
-    (h .loop .ids) (h .loop .entries) (h .loop .journal) (held-at h) (h .loop .s) (h .loop .visits) (h .loop .listed) (h .loop .written)
-    (h .loop .inv .0) (behind-rules (now (entered h .args .rules)) (h .loop .s .next) (c .before .if1 .left)))
+    (walked (head (turning v) .before) _ _ _ _
+    (walked-closed (turn v) (journal-with v) (v .visit-next .ensures .1) (closes x) (l .at .held) (l .starts) (l .ends) (l .phases)
+    (l .positions) refl _ _ _ _ _ _ _ (unit-closed k) _ (c .before .before .left2 .given .1)))
+
+loop-less-2 : tie.Need-loop-less-2 Inv-loop μ-loop
+loop-less-2 c =
+    let k = c .before .before .before .before .before .before .before .before .before .before .before in
+    let x = closing k in
+    let v = at-else x in
+    let l = head (turning v) .loop in
+    fewer-left-closed (turn v) (journal-with v) (v .visit-next .ensures .1) (closes x) (l .at .held) (l .starts) (l .ends) (l .phases)
+    (l .positions) refl _ _ _ _ _ _ _ (unit-closed k) _ (c .before .left .given .1)
+    (length (now (entered (head (turning v) .before) .args .rules)) / 5) (turning v .if1 .taken)
+
+loop-again-2 : tie.Need-loop-again-2 Inv-loop μ-loop
+loop-again-2 c =
+    let k = c .before .before .before .before .before .before .before .before .before .before .before in
+    let x = closing k in
+    let v = at-else x in
+    let l = head (turning v) .loop in (
+      sofar-closed (turn v) (journal-with v) (v .visit-next .ensures .1) (closes x) (l .at .held) (l .starts) (l .ends) (l .phases)
+          (l .positions) refl _ _ _ _ _ _ _ (unit-closed k) _ (c .before .left .given .1),
+      unit-closed k .turned .whole,
+    )
+
+-- NO RULE IS LEFT
+
+end-at-requires-2 : tie.Need-end-at-requires-2 Inv-loop μ-loop
+end-at-requires-2 c κs = tt
+
+ended-requires-3 : tie.Need-ended-requires-3 Inv-loop μ-loop
+ended-requires-3 c κs = tt
+
+same-length-7 : tie.Need-same-length-7 Inv-loop μ-loop
+same-length-7 c = ids-as-lent (c .before .before .before .before)
+
+same-length-8 : tie.Need-same-length-8 Inv-loop μ-loop
+same-length-8 c = entries-as-lent (c .before .before .before .before)
+
+same-length-9 : tie.Need-same-length-9 Inv-loop μ-loop
+same-length-9 c = journal-as-lent (c .before .before .before .before)
+
+returns-3 : tie.Need-returns-3 Inv-loop μ-loop
+returns-3 c =
+    let h = c .before .before .before .before in
+    let a = entered (h .before) .args in
+    rw (c .ended3 .ensures, c .before .end-at2 .ensures)
+    (walked (h .before) _ _ _ _
+    (sofar-end (Q (h .before)) (T (h .before)) (now (a .ids)) (now (a .entries)) (now (a .journal))
+    (h .loop .ids) (h .loop .entries) (h .loop .journal) (held-at h) (h .loop .at .state) (h .loop .at .visits) (h .loop .at .ids)
+    (h .loop .at .entries) (h .loop .inv .0)
+    (behind-rules (now (a .rules)) (h .loop .at .state .next) (c .before .before .if1 .left))))
 
 pub walk-rules-spec : {M : Type 1} → statement M
 walk-rules-spec =
@@ -423,47 +413,36 @@ walk-rules-spec =
     (tie.spec
     Inv-loop
     μ-loop
-    mode-numbered-requires
+    start-requires
     loop-holds
     visit-next-requires
-    add-visits
-    leads-on-requires
-    loop-less
-    loop-again
-    mul-from
-    mul-to
-    mul-members
-    sub-members
-    part-members-start
-    part-members-end
-    mul-free
-    mul-close-unit
-    sub-close-unit
-    part-close-unit-start
-    part-close-unit-end
-    mul-close-unit-2
-    sub-close-unit-2
-    part-close-unit-start-2
-    part-close-unit-end-2
-    close-unit-requires
-    add-listed
-    add-written
-    slice-aggregate-unit-controls
-    slice-aggregate-unit-controls-2
-    slice-aggregate-unit-controls-3
-    slice-aggregate-unit-controls-4
-    unit-controls-requires
-    turn-end-requires
-    stopped-requires
+    add-at
+    is-error-requires
+    end-at-requires
     ended-requires
     same-length
     same-length-2
     same-length-3
     returns
-    loop-less-2
-    loop-again-2
+    loop-less
+    loop-again
+    slice-aggregate-close
+    slice-aggregate-close-2
+    slice-aggregate-close-3
+    slice-aggregate-close-4
+    close-requires
+    enum-known-left
+    enum-known-left-2
     ended-requires-2
     same-length-4
     same-length-5
     same-length-6
-    returns-2)
+    returns-2
+    loop-less-2
+    loop-again-2
+    end-at-requires-2
+    ended-requires-3
+    same-length-7
+    same-length-8
+    same-length-9
+    returns-3)

@@ -1,7 +1,6 @@
 -- `unit::close_unit` meets its contract.
 use denote.Ref.{now}
-use Rattle.unit.proofs.CloseLaws.{open-still, closed-now}
-use borrow.Author.Needs.{needs}
+use Rattle.unit.proofs.CloseLaws.{closed-now}
 use borrow.Author.Needs.{needs}
 use Rattle.unit.proofs.close_unit.Statement.{statement}
 use Rattle.unit.proofs.close_unit.Tie as tie
@@ -43,27 +42,22 @@ same-length-2 : tie.Need-same-length-2
 same-length-2 c = search needs
 
 returns : tie.Need-returns
-returns c = λ rest. let a = c .before .before .before .before .before .before .before .before .before .before .before .before
-    .before .before .before .before .before .before .before .before .before .before .before .before .args in
-    let s = c .before .before .before .before .before .before .before .before .before .before .before .before .before .before
-    .starter-of in
-    let r = c .before .before .before .before .before .before .before .before .before .before .before .before .before .rule-at in
-    let i = c .before .before .before .before .before .before .before .before .before .before .before .before .rule-id in
-    let p = c .before .before .before .before .before .before .before .before .before .before .put-id in
-    let w = c .before .before .before .before .before .before .put-entries in
-    let x = c .before .before .execute-actions in
+returns c = λ rest.
+    let executed = c .before .before in
+    let entered = executed .before .before .before .before in
+    let listed = entered .before .before .before .before in
+    let named = listed .before .before in
+    let a = named .before .before .before .before .before .before .before .before .before .before .before .args in
+    let r = named .before .rule-at in
+    let i = named .rule-id in
+    let p = listed .put-id in
+    let w = entered .put-entries in
+    let x = executed .execute-actions in
     closed-now (a .phase) (now (a .rules)) (now (a .actions)) (now (a .markers)) (now (a .text)) (now (a .outcomes))
-    (now (a .members)) rest (a .behind) (now (a .ids)) (now (a .entries)) (a .closes)
-    (c .before .before .before .before .before .before .before .before .before .before .before .before .before .before .before
-    .if1 .taken)
-    (r .result) (rw (s .ensures) at (r .ensures)) (i .result) (i .ensures) (p .result) (w .result) (c .after-flow .result)
-    (x .result .flow) (x .result .disruptive) _ _ (p .ensures .0) (p .ensures .1) (w .ensures) (x .ensures .flow)
-    (x .ensures .disruptive) (c .after-flow .ensures (a .phase) (now (a .outcomes)) rest)
-
-returns-2 : tie.Need-returns-2
-returns-2 c = λ rest. let a = c .before .before .before .before .before .before .before .before .before .args in
-    open-still (a .phase) (now (a .rules)) (now (a .actions)) (now (a .markers)) (now (a .text)) (now (a .outcomes))
-    (now (a .members)) rest (a .behind) (now (a .ids)) (now (a .entries)) (a .closes) (c .if1 .left)
+    (now (a .members)) rest (a .behind) (now (a .ids)) (now (a .entries))
+    (r .result) (rw (named .before .before .starter-of .ensures) at (r .ensures)) (i .result) (i .ensures) (p .result) (w .result)
+    (c .after-flow .result) (x .result .flow) (x .result .disruptive) _ _ (p .ensures .0) (p .ensures .1) (w .ensures)
+    (x .ensures .flow) (x .ensures .disruptive) (c .after-flow .ensures (a .phase) (now (a .outcomes)) rest)
 
 pub close-unit-spec : {M : Type 1} → statement M
 close-unit-spec =
@@ -81,5 +75,4 @@ close-unit-spec =
     after-flow-requires
     same-length
     same-length-2
-    returns
-    returns-2)
+    returns)
