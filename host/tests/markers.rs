@@ -49,6 +49,30 @@ fn every_marker_is_found() {
     }
 }
 
+/// Random markers of a few names, asked for each name, beside a search in Rust.
+#[test]
+fn beside_a_search_in_rust() {
+    let names = [&b""[..], b"A", b"AB", b"BA", b"a"];
+    let mut state = 1_u64;
+    let mut below = |count: u64| {
+        state = state
+            .wrapping_mul(6_364_136_223_846_793_005)
+            .wrapping_add(1_442_695_040_888_963_407);
+        (state >> 33) % count
+    };
+    for _ in 0..5_000 {
+        let count = below(9);
+        let drawn = (0..count).map(|_| (names[below(5) as usize], below(4)));
+        let markers: Vec<(&[u8], u64)> = drawn.collect();
+        let rules = rules(3, &markers);
+        for name in names {
+            let latest = markers.iter().rev().find(|marker| marker.0 == name);
+            let expected = latest.map(|marker| marker.1);
+            assert_eq!(rules.marker_position(name), Ok(expected), "{markers:?}");
+        }
+    }
+}
+
 /// A phase call that jumps goes to the position that the question gives.
 #[test]
 fn the_phase_call_goes_there() {

@@ -14,7 +14,8 @@ positionsOf ps = map (λ p. p .position) ps
 
 -- Of a rule with the actions `ps`: what is answered, and what is left of the lent list `found`. The positions of the control
 -- actions stand at its start in their order, as many as fit, and the rest is as found.
--- The two outcomes are said in 01's numbers, of the records, which determines them; and as the cases that the walk is defined with.
+-- The two outcomes are said in 01's numbers, of the records, which determines them (`disruptive-determined`, `flow-determined` of crate
+-- theorems); and as the cases that the walk is defined with.
 pub record Executed (ps : List Placed) (phase : ℕ) (found : List ℕ) (r : RuleActions) (left : List ℕ) : Type 0 where
   pub disruptive-kind : disruptiveKind (r .disruptive) ≡ lastDisruptiveKind ps
   pub disruptive-value : disruptiveValue (r .disruptive) ≡ lastDisruptiveValue ps

@@ -1,25 +1,23 @@
 -- What the question answers, by what it is lent; and that unpacked markers answer for the records. Assumes nothing.
-use Prim.Native.Nat.{ℕ, _*_, _/_, _≤_, _<_, min}
+use Prim.Native.Nat.{ℕ, _*_, _≤_, _<_}
 use mathlib.Core.Path.{_≡_, refl, sym, ap, _∙_}
 use mathlib.Core.Bool.{Bool, true, false, cond, _||_}
 use mathlib.Core.List.{List}
 use native.Mathlib.Omega.{arith}
 use borrow.Author.Tests.{lt-ltb, le-ltb, ltb-true, ltb-false, eq-eqb, ne-eqb}
 use lib.Dec.{ltb}
-use lib.ListN.{length, take, length-take}
+use lib.ListN.{length, take}
 use lib.Seq.{take-all, length-take-le}
 use Rattle.reading.specs.declared.Marker.{Marker}
 use Rattle.reading.specs.declared.OptionU64.{OptionU64}
 use Rattle.reading.specs.Lists.{any}
 use Rattle.reading.specs.Directive.{isHigh}
-use Rattle.reading.specs.Records.{markerList}
 use Rattle.reading.specs.Refusals.{badMarker}
 use Rattle.reading.specs.Markers.{markerPosition}
 use Rattle.lists.proofs.RecordLaws.{length-markers}
 use Rattle.markers.specs.declared.Unpacked.{Unpacked}
 use Rattle.markers.specs.Unpacked.{unpackedOf, markersIn}
 use Rattle.markers.proofs.Back.{unpacked-markers}
-use Rattle.marker_lookup.specs.declared.HostMarker.{HostMarker}
 use Rattle.marker_lookup.specs.Lookup.{tooMany, lookupAnswer, answered, lookup}
 
 module _ (markers : List Marker) (rules : ℕ) (text : List ℕ) where

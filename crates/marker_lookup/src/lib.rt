@@ -1,4 +1,4 @@
-// Where a marker's name leads: the question by value, on markers as numbers.
+// Where a marker's name leads (`marker` in engine/ruleset.rs): the question by value, on markers as numbers.
 use markers::Unpacked;
 use reading::OptionU64;
 ghost use mathlib.Core.Path.{_≡_};

@@ -37,7 +37,7 @@ first-words (suc k) (m ∷ ms) rest h =
     let e : 3 * suc k ≡ suc (suc (suc (3 * k))) = omega arith in
     rw e (ap (λ (l : List ℕ). m .name .start ∷ m .name .len ∷ m .position ∷ l) (first-words k ms rest (omega arith)))
 
-first-markers : (k : ℕ) (ms : List Marker) → k ≤ length ms → k ≤ 257 → markerList (take (3 * k) (wordsOf ms)) ≡ take k ms
+pub first-markers : (k : ℕ) (ms : List Marker) → k ≤ length ms → k ≤ 257 → markerList (take (3 * k) (wordsOf ms)) ≡ take k ms
 unfolding wordsOf
 first-markers k ms h b =
     ap markerList (take-take (3 * k) 771 (markerWords ms ++ replicate 771 0) (omega arith) ∙ first-words k ms (replicate 771 0) h) ∙ markers-back (take k ms)

@@ -1,4 +1,4 @@
-// The marker records that a host lends, as the numbers that the phase call reads.
+// The marker records that a host lends, as the numbers that the phase call and the question for a marker read.
 use reading::Marker;
 ghost use mathlib.Core.Path.{_≡_};
 ghost use Rattle.markers.specs.Unpacked.{unpackedOf, blank, keptOf};

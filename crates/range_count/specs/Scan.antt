@@ -4,7 +4,7 @@ use Prim.Native.Nat.{ℕ, suc, _+_, _-_, _*_}
 use mathlib.Core.Bool.{Bool, true, false, cond}
 use mathlib.Core.List.{List, [], _∷_}
 use lib.Dec.{leb, eqb}
-use Rattle.reading.specs.Text.{isBlank, isDigit, largest}
+use Rattle.reading.specs.Text.{isBlank, largest}
 use Rattle.range_count.specs.declared.Stage.{Stage}
 use Rattle.range_count.specs.declared.Seen.{Seen}
 use Rattle.range_count.specs.declared.Step.{Step}

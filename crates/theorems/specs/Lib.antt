@@ -5,3 +5,4 @@ pub mod Answers
 pub mod Demands
 pub mod Readings
 pub mod FreeOutcomes
+pub mod Numbered

@@ -19,7 +19,7 @@ use Rattle.reading.specs.Numbers.{modeNumber, accessNumber, directiveNum
 use Rattle.reading.specs.Text.{ascii, same, trimStart, before, trimEnd, trim, fold, allDigits, valueFrom, digits, withoutPlus, numberOf, indexOf, onFirst, splitOn, oneId, idsTo, idsFrom, idPart, anyBad, rangesIn}
 use Rattle.reading.specs.Directive.{directiveOf, readerAnswer, ReaderOutcome, readerOutcome}
 use Rattle.reading.specs.Controls.{Controls, isRemoved, beyondLimits, askMode, askRemoved, askTargetCount, askTarget, askAccess, addRangeAnswer, addRangesAnswer, addTargetAnswer, withRange, withAllRanges, withTarget}
-use Rattle.reading.specs.Actions.{Placed, lastOf, lastDisruptive, lastFlow}
+use Rattle.reading.specs.Actions.{Placed, lastOf, lastDisruptive, lastFlow, lastDisruptiveKind, lastDisruptiveValue, lastFlowKind, lastFlowValue}
 use Rattle.reading.specs.Records.{actionAt, actionList}
 use Rattle.reading.specs.Cases.Build.{eqBool}
 
@@ -184,15 +184,20 @@ abbrev acting : ℕ → List Placed
 acting kind =
     record { position = 3; action = record { kind = kind; number = 5; text = record { start = 0; len = 0 }; value = record { start = 0; len = 0 } } } ∷ []
 
-abbrev kinds : List ℕ
-kinds = 0 ∷ 1 ∷ 2 ∷ 3 ∷ 4 ∷ 5 ∷ 6 ∷ 7 ∷ 8 ∷ 9 ∷ 10 ∷ []
+abbrev forEachKind : (List Placed → ℕ) → List ℕ → Bool
+forEachKind number expected = same (map (λ kind. number (acting kind)) (0 ∷ 1 ∷ 2 ∷ 3 ∷ 4 ∷ 5 ∷ 6 ∷ 7 ∷ 8 ∷ 9 ∷ 10 ∷ [])) expected
 
+-- said of the enum's case, and of the record
 abbrev outcomes : List Bool
 outcomes =
-    same (map (λ kind. disruptiveKind (lastDisruptive (acting kind))) kinds) (0 ∷ 1 ∷ 2 ∷ 3 ∷ 4 ∷ 5 ∷ 6 ∷ 0 ∷ 0 ∷ 0 ∷ 0 ∷ [])
-    ∷ same (map (λ kind. disruptiveValue (lastDisruptive (acting kind))) kinds) (0 ∷ 0 ∷ 0 ∷ 0 ∷ 0 ∷ 3 ∷ 0 ∷ 0 ∷ 0 ∷ 0 ∷ 0 ∷ [])
-    ∷ same (map (λ kind. flowKind (lastFlow (acting kind))) kinds) (0 ∷ 0 ∷ 0 ∷ 0 ∷ 0 ∷ 0 ∷ 0 ∷ 7 ∷ 8 ∷ 9 ∷ 0 ∷ [])
-    ∷ same (map (λ kind. flowValue (lastFlow (acting kind))) kinds) (0 ∷ 0 ∷ 0 ∷ 0 ∷ 0 ∷ 0 ∷ 0 ∷ 0 ∷ 5 ∷ 3 ∷ 0 ∷ [])
+    forEachKind (λ ps. disruptiveKind (lastDisruptive ps)) (0 ∷ 1 ∷ 2 ∷ 3 ∷ 4 ∷ 5 ∷ 6 ∷ 0 ∷ 0 ∷ 0 ∷ 0 ∷ [])
+    ∷ forEachKind lastDisruptiveKind (0 ∷ 1 ∷ 2 ∷ 3 ∷ 4 ∷ 5 ∷ 6 ∷ 0 ∷ 0 ∷ 0 ∷ 0 ∷ [])
+    ∷ forEachKind (λ ps. disruptiveValue (lastDisruptive ps)) (0 ∷ 0 ∷ 0 ∷ 0 ∷ 0 ∷ 3 ∷ 0 ∷ 0 ∷ 0 ∷ 0 ∷ 0 ∷ [])
+    ∷ forEachKind lastDisruptiveValue (0 ∷ 0 ∷ 0 ∷ 0 ∷ 0 ∷ 3 ∷ 0 ∷ 0 ∷ 0 ∷ 0 ∷ 0 ∷ [])
+    ∷ forEachKind (λ ps. flowKind (lastFlow ps)) (0 ∷ 0 ∷ 0 ∷ 0 ∷ 0 ∷ 0 ∷ 0 ∷ 7 ∷ 8 ∷ 9 ∷ 0 ∷ [])
+    ∷ forEachKind lastFlowKind (0 ∷ 0 ∷ 0 ∷ 0 ∷ 0 ∷ 0 ∷ 0 ∷ 7 ∷ 8 ∷ 9 ∷ 0 ∷ [])
+    ∷ forEachKind (λ ps. flowValue (lastFlow ps)) (0 ∷ 0 ∷ 0 ∷ 0 ∷ 0 ∷ 0 ∷ 0 ∷ 0 ∷ 5 ∷ 3 ∷ 0 ∷ [])
+    ∷ forEachKind lastFlowValue (0 ∷ 0 ∷ 0 ∷ 0 ∷ 0 ∷ 0 ∷ 0 ∷ 0 ∷ 5 ∷ 3 ∷ 0 ∷ [])
     ∷ []
 
 pub question-table : allTrue questions ≡ true
@@ -212,5 +217,5 @@ unfolding allTrue actionList
 record-table = refl
 
 pub outcome-table : allTrue outcomes ≡ true
-unfolding allTrue same lastOf lastDisruptive lastFlow
+unfolding allTrue same lastOf lastDisruptive lastFlow lastDisruptiveKind lastDisruptiveValue lastFlowKind lastFlowValue
 outcome-table = refl
