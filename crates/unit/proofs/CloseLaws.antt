@@ -1,5 +1,5 @@
 -- What closing a unit comes to, of what the callees gave. Assumes nothing.
-use Prim.Native.Nat.{ℕ, _/_, min}
+use Prim.Native.Nat.{ℕ, min}
 use mathlib.Core.Path.{_≡_, ap, _∙_}
 use mathlib.Core.List.{List}
 use lib.ListN.{length, take, getD}

@@ -1,7 +1,7 @@
 -- `transaction::walk_rules` meets its contract.
 use Prim.Native.Nat.{ℕ, _+_, _-_, _*_, _/_, _≤_, _<_, _^_}
 use mathlib.Core.Path.{_≡_, refl, sym, ap, subst, _∙_}
-use mathlib.Core.Bool.{true, false}
+use mathlib.Core.Bool.{true}
 use mathlib.Core.List.{List}
 use native.Mathlib.Omega.{arith}
 use borrow.Author.Tests.{not-true, not-false}
@@ -16,12 +16,12 @@ use Rattle.adding.specs.Lent.{structOf}
 use Rattle.coded.specs.Lent.{Whole}
 use Rattle.members.specs.Given.{Rest}
 use Rattle.visit.specs.declared.Visited.{Visited}
-use Rattle.visit.specs.Found.{foundAt, isError}
+use Rattle.visit.specs.Found.{foundAt}
 use Rattle.phase.specs.declared.Phase.{Phase}
 use Rattle.phase.specs.declared.Reached.{Reached}
 use Rattle.phase.specs.declared.Transaction.{Transaction}
 use Rattle.phase.specs.Phase.{callOf}
-use Rattle.phase.specs.Walked.{fresh, Ready, Walked, endedBy, UnitClosed}
+use Rattle.phase.specs.Walked.{fresh, Ready, Walked, UnitClosed}
 use Rattle.phase.proofs.Found.{verdict-found, visit-found}
 use Rattle.phase.proofs.Progress.{Sofar, sofar-none, sofar-end, few-ranges, journal-same, ids-same, entries-same}
 use Rattle.phase.proofs.Turn.{Turning, inside-rules, behind-rules, journal-ahead, visits-fit, journal-long}
