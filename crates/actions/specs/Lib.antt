@@ -1,2 +1,2 @@
-pub mod Executed
+pub mod ExecuteActions
 pub mod Slots

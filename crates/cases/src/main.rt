@@ -3,14 +3,17 @@
 //
 // Standard input has the case format, as far as cases/c1-c16.cases uses it. Anything else, and what does not fit into the
 // lists, gives `bad input`, and nothing more is read. The text that is lent to the call is the input itself.
+mod case_text;
+mod case_walk;
 
-use case_text::Case;
-use case_text::Step;
-use case_walk::Words;
+use crate::case_text::Case;
+use crate::case_text::Step;
+use crate::case_walk::Words;
 use libc::STDIN_FILENO;
-use phase::Phase;
-use phase::Transaction;
 use reading::OptionIntervention;
+use transaction::run_phase;
+use transaction::types::Phase;
+use transaction::types::Transaction;
 
 // The last line of a walk. The page has the answer only where it is not 0.
 fn write_after(p: Phase, ids: &[u64; 16], entries: &[u64; 64]) {
@@ -56,7 +59,7 @@ fn run_records(
     let mut entries = [0u64; 64];
     let mut journal = [0u64; 32];
     let t = new_transaction(c);
-    let p = transaction::run_phase(
+    let p = run_phase::run_phase(
         t,
         c.phase,
         c.mode,

@@ -1,2 +1,2 @@
-pub mod RunLaws
-pub mod HeldLaws
+pub mod Determined
+pub mod Chained

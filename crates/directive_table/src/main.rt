@@ -3,13 +3,15 @@
 // A row is seven numbers of five digits, each with one byte behind it: the lengths of name and value
 // in the row, how many fill bytes stand before each of them in its text, the fill byte, and the lengths
 // of the two lists; then name and value, and one byte more. oracle/make-directive-table writes the table.
+use ctl::read;
+use ctl::read::ReadAnswer;
 use libc::STDIN_FILENO;
 use libc::STDOUT_FILENO;
-use reader::DirectiveRead;
 use reading::BodyAccess;
 use reading::BodyProcessor;
 use reading::CtlDirective;
 use reading::RuleEngineMode;
+use text::trim;
 ghost use Prim.Native.Nat.{_≤_};
 ghost use Rattle.io.specs.Counts.{Counts};
 
@@ -140,9 +142,9 @@ fn write_target(value: &[u8], cut: usize) {
         write(b"cut outside");
         return;
     }
-    write_text(trim::trimmed(&value[0..cut]));
+    write_text(trim::trim(&value[0..cut]));
     write(b" ");
-    write_text(trim::trimmed(&value[cut + 1..]));
+    write_text(trim::trim(&value[cut + 1..]));
 }
 
 fn write_mode(m: RuleEngineMode) {
@@ -217,7 +219,7 @@ fn write_changes(list: &[u64], from: usize, lent: u64) {
 }
 
 // The row's line: the number of a refusal, or the directive, and what is not as it should be.
-fn write_line(read: DirectiveRead, value: &[u8], starts: &[u64], ends: &[u64]) {
+fn write_line(read: ReadAnswer, value: &[u8], starts: &[u64], ends: &[u64]) {
     let d = read.directive;
     if read.answer == 0 {
         write_directive(d, value, starts, ends);
@@ -254,7 +256,7 @@ fn run_texts(row: Row, name: &mut [u8], value: &mut [u8], starts: &mut [u64], en
     io::read_full(STDIN_FILENO, &mut line_end);
     let s = least(row.starts, starts.len());
     let e = least(row.ends, ends.len());
-    let read = reader::read_directive(
+    let read = read::read_directive(
         &name[..name_end],
         &value[..value_end],
         &mut starts[0..s],

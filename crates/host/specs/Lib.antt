@@ -1,1 +1,3 @@
-pub mod Record
+pub mod HostQueries
+pub mod HostUpdates
+pub mod ReadRecord

@@ -1,1 +1,2 @@
-pub mod Stopped
+pub mod EndOfVisit
+pub mod BuildIntervention

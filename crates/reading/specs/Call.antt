@@ -12,7 +12,7 @@ use Rattle.reading.specs.declared.DataEntry.{DataEntry}
 use Rattle.reading.specs.declared.JournalEntry.{JournalEntry}
 use Rattle.reading.specs.declared.OptionU64.{OptionU64}
 use Rattle.reading.specs.declared.OptionIntervention.{OptionIntervention}
-use Rattle.reading.specs.Numbers.{modeNumbered}
+use Rattle.reading.specs.Numbers.{modeOfNumber}
 use Rattle.reading.specs.Controls.{Controls, modeOr}
 use Rattle.reading.specs.Actions.{Placed, actionsOf}
 use Rattle.reading.specs.Reading.{Reading}
@@ -73,4 +73,4 @@ actionsAt q i = actionsOf (q .actions) (ruleAt q i)
 
 -- the mode in force under given controls
 abbrev pub modeUnder : Call → Controls → RuleEngineMode
-modeUnder q c = modeOr (modeNumbered (q .mode)) (c .mode)
+modeUnder q c = modeOr (modeOfNumber (q .mode)) (c .mode)

@@ -22,8 +22,8 @@ modeNumber RuleEngineMode.DetectionOnly = 1
 modeNumber RuleEngineMode.Off = 2
 
 -- the mode of a number; every number above 2 is refusal 1's
-abbrev pub modeNumbered : ℕ → RuleEngineMode
-modeNumbered n = cond (eqb n 0) RuleEngineMode.On (cond (eqb n 1) RuleEngineMode.DetectionOnly RuleEngineMode.Off)
+abbrev pub modeOfNumber : ℕ → RuleEngineMode
+modeOfNumber n = cond (eqb n 0) RuleEngineMode.On (cond (eqb n 1) RuleEngineMode.DetectionOnly RuleEngineMode.Off)
 
 -- 01: "verdict, 0 missed, 1 matched, 2 removed, 3 error"
 abbrev pub verdictNumber : Verdict → ℕ

@@ -1,6 +1,9 @@
 // The enums and structs that the definitions in specs/ and the code of the crates above share.
 // There is no function here. Lists are lent as records of plain numbers: what such a record may hold
 // is refusal 5's matter, so an unknown number is a value like any other.
+pub mod kinds;
+pub mod limits;
+pub mod widths;
 
 // The engine's mode (`RuleEngineMode`).
 pub enum RuleEngineMode {

@@ -26,16 +26,20 @@
 //
 // Each difference gives `case K call J: WHAT`; the end of the input, `N cases, M calls, D differences`. A line that is no case
 // gives `line K: not a case`, and nothing more is read.
-use control::Controls;
-use control::Settings;
+mod replay_entry;
+mod replay_line;
+
+use crate::replay_line::Expected;
+use crate::replay_line::Given;
+use crate::replay_line::Line;
+use control::state::Controls;
+use control::state::Settings;
 use libc::STDIN_FILENO;
 use libc::STDOUT_FILENO;
-use phase::Phase;
-use phase::Transaction;
 use reading::OptionIntervention;
-use replay_line::Expected;
-use replay_line::Given;
-use replay_line::Line;
+use transaction::run_phase;
+use transaction::types::Phase;
+use transaction::types::Transaction;
 
 // How many cases, calls and differences there were, and how many calls of this case.
 struct Tally {
@@ -235,7 +239,7 @@ fn run_given(
     entries: &mut [u64],
     journal: &mut [u64],
 ) -> Phase {
-    transaction::run_phase(
+    run_phase::run_phase(
         t,
         g.phase,
         g.mode,

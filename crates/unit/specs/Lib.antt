@@ -1,1 +1,3 @@
-pub mod Closed
+pub mod MemberList
+pub mod VisitRule
+pub mod CloseUnit

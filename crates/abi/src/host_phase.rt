@@ -1,0 +1,196 @@
+// The phase call as a host makes it: its transaction is a record of numbers alone, for no enum crosses to C or Rust, and its markers
+// are unpacked to numbers. The record is read, the call made by value, and the record written anew. A record with a number that is
+// not known is refused as it is. The parts of a record are those of crates numbers, numbered and stops.
+use crate::host_controls;
+use crate::host_controls::HostControls;
+use crate::host_intervention;
+use crate::host_intervention::HostIntervention;
+use crate::marker_words::MarkerWords;
+use crate::values;
+use reading::widths;
+use refusals::first;
+use refusals::first::Counts;
+use refusals::first::Sizes;
+use transaction::run_phase;
+use transaction::types::Answer;
+use transaction::types::Transaction;
+ghost use mathlib.Core.Path.{_≡_};
+ghost use lib.ListN.{take};
+ghost use Rattle.reading.specs.Call.{Call};
+ghost use Rattle.refusals.specs.FirstRefusal.{Counted};
+ghost use Rattle.transaction.specs.RunPhase.{callOf};
+ghost use Rattle.abi.specs.HostRecord.{fromHost, toHost, known};
+ghost use Rattle.abi.specs.HostCall.{lentWords, lentPart, unknownAnswer, sizesOf, HostRan};
+
+#[repr(C)]
+pub struct HostTransaction {
+    pub controls: HostControls,
+    pub allowed: u64,
+    pub intervention: HostIntervention,
+    pub ids: u64,
+    pub entries: u64,
+}
+
+// The answer, and the record after the call.
+pub struct HostPhase {
+    pub answer: Answer,
+    pub transaction: HostTransaction,
+}
+
+// Whether every number is known.
+pub fn is_known(h: HostTransaction) -> bool
+    ensures { λ r. ⌜ r ≡ known h ⌝ }
+{
+    if !values::is_flag(h.allowed) {
+        return false;
+    }
+    if !host_controls::is_known_controls(h.controls) {
+        return false;
+    }
+    host_intervention::is_intervention_known(h.intervention)
+}
+
+pub fn from_host(h: HostTransaction) -> Transaction
+    ensures { λ r. ⌜ r ≡ fromHost h ⌝ }
+{
+    let controls = host_controls::controls_from_host(h.controls);
+    let allowed = values::flag_of(h.allowed);
+    let intervention = host_intervention::intervention_of(h.intervention);
+    Transaction {
+        controls,
+        allowed,
+        intervention,
+        ids: h.ids as usize,
+        entries: h.entries as usize,
+    }
+}
+
+pub fn to_host(t: Transaction) -> HostTransaction
+    ensures { λ r. ⌜ r ≡ toHost t ⌝ }
+{
+    let controls = host_controls::controls_to_host(t.controls);
+    let allowed = values::flag_number(t.allowed);
+    let stop = t.intervention;
+    let intervention = host_intervention::host_intervention(stop);
+    HostTransaction {
+        controls,
+        allowed,
+        intervention,
+        ids: t.ids as u64,
+        entries: t.entries as u64,
+    }
+}
+
+// How many numbers of unpacked markers are lent on: those of the first 257. That is still more than a call takes, so the call answers
+// as for the whole list.
+fn word_count(count: usize) -> usize
+    ensures { λ r. ⌜ r ≡ lentWords count ⌝ }
+{
+    if 257 < count {
+        return 771;
+    }
+    widths::MARKER * count
+}
+
+// Those numbers.
+fn lent_words(words: &[u64; 771], count: usize) -> &[u64]
+    ensures { λ r. ⌜ now r ≡ take (lentWords count) (now (words .entry)) ⌝ }
+{
+    let all = &words[..];
+    let n = word_count(count);
+    &all[..n]
+}
+
+// What the record counts, and how many entries lists of so many numbers have.
+fn sizes_of(h: HostTransaction, ids: usize, entries: usize, journal: usize) -> Sizes
+    ensures { λ r. ⌜ r ≡ sizesOf h ids entries journal ⌝ }
+{
+    Sizes {
+        ranges: h.controls.ranges as usize,
+        targets: h.controls.targets as usize,
+        ids_used: h.ids as usize,
+        entries_used: h.entries as usize,
+        ids,
+        entries: entries / 4,
+        journal: journal / 2,
+    }
+}
+
+// The answer to a record with a number that is not known: that is refusal 5, and refusals 1 to 4 go first.
+fn unknown_answer(phase: u64, mode: u64, counts: Counts, sizes: Sizes) -> u64
+    ensures { λ r. ⌜ ((q : Call) → Counted q phase mode counts sizes → r ≡ unknownAnswer q) ⌝ }
+{
+    let early = first::early_refusal(phase, mode, counts, sizes);
+    if early == 0 {
+        return 5;
+    }
+    early
+}
+
+// The phase call. Known numbers are read and written back as they were, but for an intervention that is absent: what else its
+// record holds is lost. So without a visit the intervention is put back as lent, and with it the whole record is. The record isn't
+// kept whole for that: a copy of it costs as much as twenty rules.
+pub fn host_phase(
+    h: HostTransaction,
+    phase: u64,
+    mode: u64,
+    status: u64,
+    rules: &[u64],
+    actions: &[u64],
+    markers: MarkerWords,
+    text: &[u8],
+    outcomes: &[u8],
+    ids: &mut [u64],
+    entries: &mut [u64],
+    journal: &mut [u64],
+) -> HostPhase
+    ensures { λ r. ⌜ HostRan h (callOf phase mode status (now (rules .entry)) (now (actions .entry)) (lentPart markers) (now (text .entry)) (now (outcomes .entry)) (fromHost h) (now (ids .entry)) (now (entries .entry)) (now (journal .entry)))
+        (now (ids .entry)) (now (entries .entry)) (now (journal .entry)) (r .answer) (r .transaction) (now (ids .exit)) (now (entries .exit)) (now (journal .exit)) ⌝ }
+{
+    let words = lent_words(&markers.words, markers.count);
+    if !is_known(h) {
+        let counts = Counts {
+            rules: rules.len() / widths::RULE,
+            actions: actions.len() / widths::ACTION,
+            markers: words.len() / widths::MARKER,
+            bytes: text.len(),
+            outcomes: outcomes.len(),
+        };
+        let sizes = sizes_of(h, ids.len(), entries.len(), journal.len());
+        let answer = Answer {
+            answer: unknown_answer(phase, mode, counts, sizes),
+            error: 0,
+            visits: 0,
+        };
+        return HostPhase {
+            answer,
+            transaction: h,
+        };
+    }
+    let t = from_host(h);
+    let p = run_phase::run_phase(
+        t,
+        phase,
+        mode,
+        status,
+        rules,
+        actions,
+        words,
+        text,
+        outcomes,
+        ids,
+        entries,
+        journal,
+    );
+    let answer = p.answer;
+    let after = p.transaction;
+    let mut transaction = to_host(after);
+    if answer.visits == 0 {
+        let before = h.intervention;
+        transaction.intervention = before;
+    }
+    HostPhase {
+        answer,
+        transaction,
+    }
+}

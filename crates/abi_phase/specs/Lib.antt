@@ -1,2 +1,0 @@
-pub mod HostRecord
-pub mod HostCall

@@ -1,0 +1,73 @@
+-- What `write_ranges` leaves in the part of an array behind those in use, for the whole array; and a value's ranges by what
+-- `count_ranges` gives. Assumes nothing.
+use Prim.Native.Nat.{ℕ, _+_, _-_, _≤_, min}
+use mathlib.Core.Path.{_≡_, refl, sym, ap, _∙_}
+use mathlib.Core.Bool.{Bool, true, false, cond, _||_}
+use mathlib.Core.List.{List, [], _++_, map, append-assoc, append-nil}
+use native.Mathlib.Omega.{arith}
+use lib.Dec.{eqb}
+use lib.ListN.{length, take, drop, length-map, length-take, length-drop, drop-of-length-le}
+use lib.Seq.{sets, sets-eq, drop-drop, take-all}
+use Rattle.reading.specs.declared.RuleIdRange.{RuleIdRange}
+use Rattle.reading.specs.Lists.{over}
+use Rattle.reading.specs.Text.{idParts, anyBad, rangesIn}
+use Rattle.reading.specs.Directive.{unsupported, ruleRemoveById, removalValue, rangesOf, startOf, endOf}
+use Rattle.ctl.specs.declared.range_count.RangeCount.{RangeCount}
+use Rattle.ctl.specs.CountRanges.{countIn}
+use Rattle.ctl.specs.WriteRanges.{allFitting, Written}
+
+-- an array of that size whose part behind n was lent and came back as ys
+abbrev pub handed : List ℕ → ℕ → ℕ → List ℕ → List ℕ
+handed l n size ys = take n l ++ (ys ++ drop (size - n) (drop n l))
+
+module _ (l : List ℕ) (n size : ℕ) (sized : length l ≡ size) where
+  lent-length : length (take (size - n) (drop n l)) ≡ size - n
+  lent-length = simp (length-take, length-drop) (omega arith)
+
+  handed-over : (new ys : List ℕ) → n + length new ≤ size → ys ≡ over (take (size - n) (drop n l)) new → handed l n size ys ≡ sets l n new
+  handed-over new ys h e =
+      let d : length (drop n l) ≤ size - n = simp length-drop (omega arith) in
+      let all = take-all (size - n) (drop n l) d in
+      let none = drop-of-length-le (drop n l) d in
+      rw (e, all, none, append-nil, drop-drop, ← append-assoc) (sym (sets-eq new l n (omega arith)))
+
+-- a removal's ranges by what `count_ranges` gives; v is the value, trimmed
+module _ (v value : List ℕ) (is : v ≡ value) where
+  pub none-counted : countIn (removalValue v) ≡ RangeCount.Unsupported → rangesOf (removalValue value) ≡ []
+  none-counted e = rw (← is) (go (anyBad (idParts v) || eqb (length (rangesIn (idParts v))) 0) e)
+    where
+      go : (b : Bool) → countIn (cond b unsupported (ruleRemoveById (rangesIn (idParts v)))) ≡ RangeCount.Unsupported
+          → rangesOf (cond b unsupported (ruleRemoveById (rangesIn (idParts v)))) ≡ []
+      go true d = refl
+      go false d = absurd (let z : _≡_ {A = ℕ} 0 1 = cc in omega arith)
+
+  pub some-counted : (n : ℕ) → countIn (removalValue v) ≡ RangeCount.Ranges n
+      → (rangesOf (removalValue value) ≡ rangesIn (idParts v)) × (length (rangesOf (removalValue value)) ≡ n)
+  some-counted n e = rw (← is) (go (anyBad (idParts v) || eqb (length (rangesIn (idParts v))) 0) e)
+    where
+      go : (b : Bool) → countIn (cond b unsupported (ruleRemoveById (rangesIn (idParts v)))) ≡ RangeCount.Ranges n
+          → (rangesOf (cond b unsupported (ruleRemoveById (rangesIn (idParts v)))) ≡ rangesIn (idParts v))
+          × (length (rangesOf (cond b unsupported (ruleRemoveById (rangesIn (idParts v))))) ≡ n)
+      go true d = absurd (let z : _≡_ {A = ℕ} 0 1 = cc in omega arith)
+      go false d = (refl, cc)
+
+-- two arrays whose parts behind n `write_ranges` was lent, with room for all ranges
+module _ (v starts ends : List ℕ) (n size : ℕ) (ls : length starts ≡ size) (le : length ends ≡ size)
+    (new : List RuleIdRange) (is : new ≡ rangesIn (idParts v)) (h : n + length new ≤ size) (s e : List ℕ) where
+  fit : allFitting v (take (size - n) (drop n starts)) (take (size - n) (drop n ends)) ≡ new
+  unfolding allFitting
+  fit =
+      rw (lent-length starts n size ls, lent-length ends n size le, ← is)
+      (take-all (min (size - n) (size - n)) new (omega arith))
+
+  pub written-behind : Written v (take (size - n) (drop n starts)) (take (size - n) (drop n ends)) s e
+      → (handed starts n size s ≡ sets starts n (map startOf new)) × (handed ends n size e ≡ sets ends n (map endOf new))
+  written-behind w =
+      (one startOf starts s ls (w .starts-are), one endOf ends e le (w .ends-are))
+    where
+      one : (read : RuleIdRange → ℕ) (l ys : List ℕ) → length l ≡ size
+          → ys ≡ over (take (size - n) (drop n l)) (map read (allFitting v (take (size - n) (drop n starts)) (take (size - n) (drop n ends))))
+          → handed l n size ys ≡ sets l n (map read new)
+      one read l ys sized w =
+          handed-over l n size sized (map read new) ys (simp length-map (omega arith))
+          (w ∙ ap (λ (rs : List RuleIdRange). over (take (size - n) (drop n l)) (map read rs)) fit)

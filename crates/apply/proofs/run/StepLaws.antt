@@ -1,0 +1,197 @@
+-- One code: what it leaves, and that no code takes a range or a target away.
+use Prim.Native.Nat.{ℕ, _≤_, _<_}
+use mathlib.Core.Path.{_≡_, refl, sym, ap, _∙_}
+use mathlib.Core.Bool.{Bool, true, false, cond}
+use mathlib.Core.List.{List, [], _∷_, _++_}
+use native.Mathlib.Omega.{arith}
+use borrow.Author.Tests.{le-leb, lt-leb, eq-eqb, ne-eqb}
+use lib.Dec.{leb, eqb}
+use lib.ListN.{length, length-append}
+use Rattle.reading.specs.declared.Place.{Place}
+use Rattle.reading.specs.declared.RuleIdRange.{RuleIdRange}
+use Rattle.reading.specs.declared.RuleEngineMode.{RuleEngineMode}
+use Rattle.reading.specs.declared.BodyAccess.{BodyAccess}
+use Rattle.reading.specs.declared.BodyProcessor.{BodyProcessor}
+use Rattle.reading.specs.Lists.{keep}
+use Rattle.reading.specs.Text.{trim}
+use Rattle.reading.specs.Directive.{removalValue, rangesOf}
+use Rattle.reading.specs.Controls.{Controls, withMode, withAccess, withProcessor, withTarget, withAllRanges}
+use Rattle.reading.specs.Controls.{addTargetAnswer, addRangesAnswer}
+use Rattle.control.specs.declared.state.Settings.{Settings}
+use Rattle.control.specs.declared.state.Controls as held
+use Rattle.control.specs.ControlsStruct.{controlsOf}
+use Rattle.apply.specs.SettingCodes.{modeSet, accessSet, processorSet, settingsAfter}
+use Rattle.apply.specs.declared.append.ControlCounts.{ControlCounts}
+use Rattle.apply.specs.UnitCodes.{settingByCode, appliedCode}
+use Rattle.apply.specs.Append.{structOf, TargetAdded, RangesAdded}
+use Rattle.apply.specs.ApplyUnit.{Whole, Turned}
+
+-- the first of two controls has no more ranges and no more targets than the second
+pub record Grown (a b : Controls) : Type 0 where
+  pub ranges : length (a .ranges) ≤ length (b .ranges)
+  pub targets : length (a .targets) ≤ length (b .targets)
+
+pub grown-same : (a : Controls) → Grown a a
+grown-same a = record { ranges = omega arith; targets = omega arith }
+
+pub grown-then : (a b c : Controls) → Grown a b → Grown b c → Grown a c
+grown-then a b c p q = record { ranges = omega arith; targets = omega arith }
+
+-- the controls with other settings
+abbrev withSettings : Controls → Settings → Controls
+withSettings c s = record
+    { mode = s .mode; ranges = c .ranges; targets = c .targets; access = s .access; processor = s .processor }
+
+module _ (at : Place) (value : List ℕ) (code : ℕ) (x : Controls) (s : Settings) where
+  -- a code that adds nothing
+  pub coded-set : code ≤ 9 → appliedCode at value code (withSettings x s) ≡ withSettings x (settingsAfter code s)
+  unfolding appliedCode settingsAfter
+  coded-set h =
+      rw (le-leb code 9 h)
+      (go (eqb code 1) (eqb code 2) (eqb code 3) (eqb code 4) (eqb code 5) (eqb code 6) (eqb code 7) (eqb code 8) (eqb code 9))
+    where
+      go : (b1 b2 b3 b4 b5 b6 b7 b8 b9 : Bool)
+          → cond b1 (withMode (withSettings x s) RuleEngineMode.On)
+          (cond b2 (withMode (withSettings x s) RuleEngineMode.DetectionOnly)
+          (cond b3 (withMode (withSettings x s) RuleEngineMode.Off)
+          (cond b4 (withAccess (withSettings x s) BodyAccess.On)
+          (cond b5 (withAccess (withSettings x s) BodyAccess.Off)
+          (cond b6 (withProcessor (withSettings x s) BodyProcessor.Urlencoded)
+          (cond b7 (withProcessor (withSettings x s) BodyProcessor.Multipart)
+          (cond b8 (withProcessor (withSettings x s) BodyProcessor.Json)
+          (cond b9 (withProcessor (withSettings x s) BodyProcessor.Xml) (withSettings x s)))))))))
+          ≡ withSettings x
+          (cond b1 (modeSet s RuleEngineMode.On)
+          (cond b2 (modeSet s RuleEngineMode.DetectionOnly)
+          (cond b3 (modeSet s RuleEngineMode.Off)
+          (cond b4 (accessSet s BodyAccess.On)
+          (cond b5 (accessSet s BodyAccess.Off)
+          (cond b6 (processorSet s BodyProcessor.Urlencoded)
+          (cond b7 (processorSet s BodyProcessor.Multipart)
+          (cond b8 (processorSet s BodyProcessor.Json)
+          (cond b9 (processorSet s BodyProcessor.Xml) s)))))))))
+      go true b2 b3 b4 b5 b6 b7 b8 b9 = refl
+      go false true b3 b4 b5 b6 b7 b8 b9 = refl
+      go false false true b4 b5 b6 b7 b8 b9 = refl
+      go false false false true b5 b6 b7 b8 b9 = refl
+      go false false false false true b6 b7 b8 b9 = refl
+      go false false false false false true b7 b8 b9 = refl
+      go false false false false false false true b8 b9 = refl
+      go false false false false false false false true b9 = refl
+      go false false false false false false false false true = refl
+      go false false false false false false false false false = refl
+
+target-grown : (at : Place) (x : Controls) → Grown x (withTarget x at)
+target-grown at x = go (eqb (addTargetAnswer x) 0)
+  where
+    go : (b : Bool) → Grown x (record {
+      mode = x .mode;
+      ranges = x .ranges;
+      targets = cond b (x .targets ++ (at ∷ [])) (x .targets);
+      access = x .access;
+      processor = x .processor;
+    })
+    go true = record { ranges = omega arith; targets = omega (arith, length-append (x .targets) (at ∷ [])) }
+    go false = record { ranges = omega arith; targets = omega arith }
+
+ranges-grown : (rs : List RuleIdRange) (x : Controls) → Grown x (withAllRanges x rs)
+ranges-grown rs x =
+    record { ranges = omega (arith, length-append (x .ranges) (keep (eqb (addRangesAnswer x rs) 0) rs)); targets = omega arith }
+
+-- a code below 10 leaves both lists
+setting-grown : (code : ℕ) (x : Controls) → Grown x (settingByCode code x)
+setting-grown code x =
+    go (eqb code 1) (eqb code 2) (eqb code 3) (eqb code 4) (eqb code 5) (eqb code 6) (eqb code 7) (eqb code 8) (eqb code 9)
+  where
+    go : (b1 b2 b3 b4 b5 b6 b7 b8 b9 : Bool)
+        → Grown x
+        (cond b1 (withMode x RuleEngineMode.On)
+        (cond b2 (withMode x RuleEngineMode.DetectionOnly)
+        (cond b3 (withMode x RuleEngineMode.Off)
+        (cond b4 (withAccess x BodyAccess.On)
+        (cond b5 (withAccess x BodyAccess.Off)
+        (cond b6 (withProcessor x BodyProcessor.Urlencoded)
+        (cond b7 (withProcessor x BodyProcessor.Multipart)
+        (cond b8 (withProcessor x BodyProcessor.Json)
+        (cond b9 (withProcessor x BodyProcessor.Xml) x)))))))))
+    go true b2 b3 b4 b5 b6 b7 b8 b9 = record { ranges = omega arith; targets = omega arith }
+    go false true b3 b4 b5 b6 b7 b8 b9 = record { ranges = omega arith; targets = omega arith }
+    go false false true b4 b5 b6 b7 b8 b9 = record { ranges = omega arith; targets = omega arith }
+    go false false false true b5 b6 b7 b8 b9 = record { ranges = omega arith; targets = omega arith }
+    go false false false false true b6 b7 b8 b9 = record { ranges = omega arith; targets = omega arith }
+    go false false false false false true b7 b8 b9 = record { ranges = omega arith; targets = omega arith }
+    go false false false false false false true b8 b9 = record { ranges = omega arith; targets = omega arith }
+    go false false false false false false false true b9 = record { ranges = omega arith; targets = omega arith }
+    go false false false false false false false false true = record { ranges = omega arith; targets = omega arith }
+    go false false false false false false false false false = record { ranges = omega arith; targets = omega arith }
+
+pub coded-grown : (at : Place) (value : List ℕ) (code : ℕ) (x : Controls) → Grown x (appliedCode at value code x)
+unfolding appliedCode
+coded-grown at value code x = go (leb code 9) (eqb code 10)
+  where
+    go : (b d : Bool) → Grown x (cond b (settingByCode code x)
+        (cond d (withTarget x at) (withAllRanges x (rangesOf (removalValue (trim value))))))
+    go true d = setting-grown code x
+    go false true = target-grown at x
+    go false false = ranges-grown (rangesOf (removalValue (trim value))) x
+
+-- the controls with the settings that they have
+settings-same : (c : held.Controls) → controlsOf c ≡ withSettings (controlsOf c) (c .settings)
+unfolding controlsOf
+settings-same c = refl
+
+-- what a code leaves, by what it adds
+module _ (h : ControlCounts) (starts ends phases positions : List ℕ) (at : Place) (value : List ℕ) (code : ℕ)
+    (whole : Whole starts ends phases positions) where
+  abbrev c : held.Controls
+  c = structOf h starts ends phases positions
+
+  pub turned-set : (s : Settings) → code ≤ 9 → s ≡ settingsAfter code (h .settings)
+      → Turned h starts ends phases positions (record { settings = s; ranges = h .ranges; targets = h .targets }) starts ends
+      phases positions (appliedCode at value code (controlsOf c))
+  unfolding controlsOf
+  turned-set s l e =
+      record {
+        whole = whole;
+        became = record { meaning = means; starts = refl; ends = refl; phases = refl; positions = refl };
+      }
+    where
+      means : controlsOf (structOf (record { settings = s; ranges = h .ranges; targets = h .targets }) starts ends phases
+          positions)
+          ≡ appliedCode at value code (controlsOf c)
+      means =
+          ap (withSettings (controlsOf c)) e
+          ∙ (sym (coded-set at value code (controlsOf c) (h .settings) l) ∙ ap (appliedCode at value code)
+          (sym (settings-same c)))
+
+  pub turned-target : (r : ControlCounts) (phases′ positions′ : List ℕ) → code ≡ 10 → TargetAdded h at phases positions r phases′
+      positions′
+      → Turned h starts ends phases positions r starts ends phases′ positions′ (appliedCode at value code (controlsOf c))
+  unfolding appliedCode
+  turned-target r phases′ positions′ e a =
+      rw (lt-leb code 9 (omega arith), eq-eqb code 10 e)
+      (record {
+        whole = record {
+          starts-256 = whole .starts-256;
+          ends-256 = whole .ends-256;
+          phases-64 = a .phases-64;
+          positions-64 = a .positions-64;
+        };
+        became = a .became starts ends;
+      })
+
+  pub turned-ranges : (v : List ℕ) (r : ControlCounts) (starts′ ends′ : List ℕ) → 9 < code → (code ≡ 10 → ⊥) → v ≡ value
+      → RangesAdded h v starts ends r starts′ ends′
+      → Turned h starts ends phases positions r starts′ ends′ phases positions (appliedCode at value code (controlsOf c))
+  unfolding appliedCode
+  turned-ranges v r starts′ ends′ l n e a =
+      rw (lt-leb code 9 l, ne-eqb code 10 n, ← e)
+      (record {
+        whole = record {
+          starts-256 = a .starts-256;
+          ends-256 = a .ends-256;
+          phases-64 = whole .phases-64;
+          positions-64 = whole .positions-64;
+        };
+        became = a .became phases positions;
+      })

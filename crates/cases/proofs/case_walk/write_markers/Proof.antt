@@ -1,0 +1,35 @@
+-- `write_markers` is safe and ends: each turn writes one marker.
+use borrow.Author.Needs.{needs}
+use Prim.Native.Nat.{_-_}
+use native.Mathlib.Omega.{arith}
+use Rattle.cases.proofs.case_walk.write_markers.Statement.{statement}
+use Rattle.cases.proofs.case_walk.write_markers.Tie as tie
+
+abbrev Inv-loop : tie.InvT-loop
+Inv-loop s markers n k₀ k = Unit {0}
+
+abbrev μ-loop : tie.MeasureT-loop
+μ-loop s markers n k₀ k = n - k
+
+loop-holds : tie.Need-loop-holds Inv-loop μ-loop
+loop-holds c = tt
+
+write-marker-requires : tie.Need-write-marker-requires Inv-loop μ-loop
+write-marker-requires c κs = search needs
+
+add-k : tie.Need-add-k Inv-loop μ-loop
+add-k c = omega arith
+
+loop-less : tie.Need-loop-less Inv-loop μ-loop
+loop-less c = omega arith
+
+loop-again : tie.Need-loop-again Inv-loop μ-loop
+loop-again c = tt
+
+returns : tie.Need-returns Inv-loop μ-loop
+returns c = tt
+
+pub write-markers-spec : {M : Type 1} → statement M
+write-markers-spec =
+    tie.close
+    (tie.spec Inv-loop μ-loop loop-holds write-marker-requires add-k loop-less loop-again returns)

@@ -1,2 +1,0 @@
-pub mod Coded
-pub mod Lent

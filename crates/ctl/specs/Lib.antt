@@ -1,0 +1,5 @@
+pub mod CountRanges
+pub mod Scan
+pub mod WriteRanges
+pub mod SettingNames
+pub mod ReadDirective

@@ -1,0 +1,65 @@
+// The directive reader, as C and Rust call it: a directive crosses as two numbers, its form and its value.
+use abi::values;
+use ctl::read;
+use reading::CtlDirective;
+ghost use mathlib.Core.Path.{_≡_};
+ghost use Rattle.reading.specs.Directive.{readerOutcome};
+ghost use Rattle.reading.specs.Numbers.{directiveNumber, directiveValue};
+ghost use Rattle.host.specs.ReadRecord.{Recorded};
+
+// What the reader answers, the number of the directive's form, and its value.
+#[repr(C)]
+pub struct ReadRecord {
+    pub answer: u64,
+    pub form: u64,
+    pub value: u64,
+}
+
+// The number of a directive's form.
+fn form_of(d: CtlDirective) -> u64
+    ensures { λ r. ⌜ r ≡ directiveNumber d ⌝ }
+{
+    match d {
+        CtlDirective::Unsupported => 0,
+        CtlDirective::RuleEngine(_) => 1,
+        CtlDirective::RuleRemoveById(_) => 2,
+        CtlDirective::RuleRemoveTargetById(_) => 3,
+        CtlDirective::RequestBodyAccess(_) => 4,
+        CtlDirective::RequestBodyProcessor(_) => 5,
+    }
+}
+
+// A directive's value: the number of a mode, an access or a processor, how many ranges, or where a target is cut.
+fn value_of(d: CtlDirective) -> u64
+    ensures { λ r. ⌜ r ≡ directiveValue d ⌝ }
+{
+    match d {
+        CtlDirective::Unsupported => 0,
+        CtlDirective::RuleEngine(m) => values::mode_number(m),
+        CtlDirective::RuleRemoveById(n) => n as u64,
+        CtlDirective::RuleRemoveTargetById(cut) => cut as u64,
+        CtlDirective::RequestBodyAccess(a) => values::access_number(a),
+        CtlDirective::RequestBodyProcessor(p) => values::processor_number(p),
+    }
+}
+
+// Reads a directive. The ranges of a ruleRemoveById go to the start of the two lists.
+#[no_mangle]
+pub extern "C" fn tivembo_read_directive(
+    name: &[u8],
+    value: &[u8],
+    starts: &mut [u64],
+    ends: &mut [u64],
+) -> ReadRecord
+    ensures { λ r. ⌜ Recorded
+        (readerOutcome (now (name .entry)) (now (value .entry)) (now (starts .entry)) (now (ends .entry)))
+        r (now (starts .exit)) (now (ends .exit)) ⌝ }
+{
+    let read = read::read_directive(name, value, starts, ends);
+    let d = read.directive;
+    ReadRecord {
+        answer: read.answer,
+        form: form_of(d),
+        value: value_of(d),
+    }
+}

@@ -1,0 +1,192 @@
+// Refusals 1 to 7: the first that applies, over everything that a call lends.
+use crate::action_checks;
+use crate::marker_checks;
+use crate::rule_checks;
+use control::fields;
+use reading::limits;
+use reading::widths;
+use text::high_bytes;
+ghost use mathlib.Core.Path.{_≡_};
+ghost use mathlib.Core.Bool.{_||_};
+ghost use Prim.Native.Nat.{_+_, _/_};
+ghost use lib.ListN.{length};
+ghost use lib.Dec.{ltb};
+ghost use Rattle.reading.specs.Lists.{any};
+ghost use Rattle.reading.specs.Controls.{mostRanges, mostTargets};
+ghost use Rattle.reading.specs.Records.{ruleList, actionList, markerList};
+ghost use Rattle.reading.specs.Refusals.{badRule, badAction, badMarker, badOutcome};
+ghost use Rattle.reading.specs.Call.{Call};
+ghost use Rattle.refusals.specs.FirstRefusal.{Counted, Lent, firstOfFour, firstOfSeven};
+
+// How many records, text bytes and outcomes a call lends.
+pub struct Counts {
+    pub rules: usize,
+    pub actions: usize,
+    pub markers: usize,
+    pub bytes: usize,
+    pub outcomes: usize,
+}
+
+// What the transaction counts, and how many entries the lists have that are written.
+pub struct Sizes {
+    pub ranges: usize,
+    pub targets: usize,
+    pub ids_used: usize,
+    pub entries_used: usize,
+    pub ids: usize,
+    pub entries: usize,
+    pub journal: usize,
+}
+
+// Refusal 1: a phase or a mode that there is not.
+fn is_unknown(phase: u64, mode: u64) -> bool
+    ensures { λ r. ⌜ r ≡ (ltb phase 1 || ltb 5 phase || ltb 2 mode) ⌝ }
+{
+    if phase < 1 {
+        return true;
+    }
+    if 5 < phase {
+        return true;
+    }
+    2 < mode
+}
+
+// Refusal 2: more rules, actions, markers or text bytes than a call may have.
+fn is_too_large(counts: Counts) -> bool
+    ensures { λ r. ⌜ r ≡ (ltb 512 (counts .rules) || ltb 4096 (counts .actions) || ltb 256 (counts .markers) || ltb 65536 (counts .bytes)) ⌝ }
+{
+    if 512 < counts.rules {
+        return true;
+    }
+    if limits::ACTIONS < counts.actions {
+        return true;
+    }
+    if 256 < counts.markers {
+        return true;
+    }
+    limits::TEXT_BYTES < counts.bytes
+}
+
+// Refusal 3: the transaction counts more than its limits, or more than a lent list has.
+fn is_miscounted(sizes: Sizes) -> bool
+    ensures { λ r. ⌜ r ≡ ((ltb mostRanges (sizes .ranges) || ltb mostTargets (sizes .targets))
+        || ltb (sizes .ids) (sizes .«ids_used») || ltb (sizes .entries) (sizes .«entries_used»)) ⌝ }
+{
+    if fields::is_beyond(sizes.ranges, sizes.targets) {
+        return true;
+    }
+    if sizes.ids < sizes.ids_used {
+        return true;
+    }
+    sizes.entries < sizes.entries_used
+}
+
+// The number of the first refusal of 1 to 4 that applies, else 0. These look at numbers alone and at no record, so the answer is
+// the same whatever the lists hold.
+pub fn early_refusal(phase: u64, mode: u64, counts: Counts, sizes: Sizes) -> u64
+    ensures { λ r. ⌜ ((q : Call) → Counted q phase mode counts sizes → r ≡ firstOfFour q) ⌝ }
+{
+    if is_unknown(phase, mode) {
+        return 1;
+    }
+    if is_too_large(counts) {
+        return 2;
+    }
+    if is_miscounted(sizes) {
+        return 3;
+    }
+    if counts.outcomes != counts.rules {
+        return 4;
+    }
+    0
+}
+
+// Refusal 5: a record that holds what no record may.
+fn has_bad_record(
+    rules: &[u64],
+    actions: &[u64],
+    markers: &[u64],
+    bytes: usize,
+    outcomes: &[u8],
+) -> bool
+    ensures { λ r. ⌜ r ≡ (any (badRule (length (now (actions .entry)) / 6)) (ruleList (now (rules .entry)))
+        || any (badAction bytes) (actionList (now (actions .entry)))
+        || any (badMarker bytes (length (now (rules .entry)) / 5)) (markerList (now (markers .entry)))
+        || any badOutcome (now (outcomes .entry))) ⌝ }
+{
+    if rule_checks::any_bad_rule(rules, actions.len() / widths::ACTION) {
+        return true;
+    }
+    if action_checks::any_bad_action(actions, bytes) {
+        return true;
+    }
+    if marker_checks::any_bad_marker(markers, bytes, rules.len() / widths::RULE) {
+        return true;
+    }
+    marker_checks::any_bad_outcome(outcomes)
+}
+
+// Whether a list of so many entries, some of them used, has fewer free than are needed. The sum is never formed, so it
+// can't wrap.
+fn is_short(entries: usize, used: usize, needed: usize) -> bool
+    ensures { λ r. ⌜ r ≡ ltb entries (used + needed) ⌝ }
+{
+    if entries < used {
+        return true;
+    }
+    entries - used < needed
+}
+
+// Refusal 7: a list with fewer free entries than there are rules.
+fn has_no_room(sizes: Sizes, rules: usize) -> bool
+    ensures { λ r. ⌜ r ≡ (ltb (sizes .ids) (sizes .«ids_used» + rules)
+        || ltb (sizes .entries) (sizes .«entries_used» + rules) || ltb (sizes .journal) rules) ⌝ }
+{
+    if is_short(sizes.ids, sizes.ids_used, rules) {
+        return true;
+    }
+    if is_short(sizes.entries, sizes.entries_used, rules) {
+        return true;
+    }
+    sizes.journal < rules
+}
+
+// The number of the first refusal of 1 to 7 that applies, else 0.
+pub fn first_refusal(
+    phase: u64,
+    mode: u64,
+    rules: &[u64],
+    actions: &[u64],
+    markers: &[u64],
+    text: &[u8],
+    outcomes: &[u8],
+    sizes: Sizes,
+) -> u64
+    ensures { λ r. ⌜ ((q : Call) → Lent q phase mode (now (rules .entry)) (now (actions .entry)) (now (markers .entry))
+        (now (text .entry)) (now (outcomes .entry)) sizes
+        → r ≡ firstOfSeven q) ⌝ }
+{
+    let n = rules.len() / widths::RULE;
+    let bytes = text.len();
+    let counts = Counts {
+        rules: n,
+        actions: actions.len() / widths::ACTION,
+        markers: markers.len() / widths::MARKER,
+        bytes,
+        outcomes: outcomes.len(),
+    };
+    let early = early_refusal(phase, mode, counts, sizes);
+    if early != 0 {
+        return early;
+    }
+    if has_bad_record(rules, actions, markers, bytes, outcomes) {
+        return 5;
+    }
+    if high_bytes::has_high_byte(text) {
+        return 6;
+    }
+    if has_no_room(sizes, n) {
+        return 7;
+    }
+    0
+}

@@ -1,0 +1,241 @@
+-- What the loop of `walk_rules` has written after some visits, how far the walk then is, and what one turn adds. Assumes nothing.
+use Prim.Native.Nat.{ℕ, _+_, _-_, _*_, _≤_}
+use mathlib.Core.Path.{_≡_, refl, sym, ap, _∙_}
+use mathlib.Core.Bool.{false, cond}
+use mathlib.Core.List.{List, [], _++_, append-assoc, append-nil}
+use native.Mathlib.Omega.{arith}
+use native.Mathlib.Nat.{sub-zero}
+use lib.ListN.{length, take, drop, length-append, take-append-drop}
+use lib.Seq.{length-take-le, drop-drop}
+use Rattle.reading.specs.declared.OptionIntervention.{OptionIntervention}
+use Rattle.reading.specs.Records.{dataWords, journalWords, matchedIn}
+use Rattle.reading.specs.Controls.{isOff}
+use Rattle.reading.specs.Controls as reading
+use Rattle.reading.specs.Call.{Call, ruleCount, modeUnder}
+use Rattle.reading.specs.Walk.{Visit, journalOf, idsOf, dataOf, controlsAfter, allowedBy}
+use Rattle.reading.specs.Walk.{interventionBy, answerBy, errorIndexBy, walk}
+use Rattle.theorems.specs.Limits.{length-journal}
+use Rattle.control.specs.declared.state.Controls.{Controls}
+use Rattle.control.specs.ControlsStruct.{controlsOf, Became}
+use Rattle.control.proofs.Chained.{became-same, became-ranges}
+use Rattle.apply.proofs.run.StepLaws.{Grown}
+use Rattle.unit.proofs.members.WordLaws.{length-journal-words, length-data-words}
+use Rattle.unit.specs.declared.visit.State.{State}
+use Rattle.unit.specs.VisitRule.{entryBy}
+use Rattle.intervention.specs.declared.decide.Ending.{Ending}
+use Rattle.transaction.specs.declared.types.Transaction.{Transaction}
+use Rattle.transaction.specs.WalkRules.{visitsFrom, Ready, isErrs, isAllows, endedBy, Walked}
+use Rattle.transaction.proofs.Turns.{walk-end, ids-append, data-append}
+use Rattle.transaction.proofs.Turns.{controls-append, Going, answer-after, error-after}
+use Rattle.transaction.proofs.Turns.{allowed-after, intervention-after, walk-grows}
+use Rattle.transaction.proofs.Parts.{whole-length}
+
+-- what the three lists hold after the visits `done`
+pub record Written (q : Call) (t : Transaction) (ids₀ entries₀ journal₀ : List ℕ) (done : List Visit)
+    (ids entries journal : List ℕ)
+    (visits listed written : ℕ) : Type 0 where
+  pub count : length done ≡ visits
+  pub journal-is : journal ≡ journalWords (journalOf done) ++ drop (2 * visits) journal₀
+  pub ids-are : ids ≡ (take (t .ids) ids₀ ++ idsOf q done) ++ drop listed ids₀
+  pub listed-is : listed ≡ t .ids + length (idsOf q done)
+  pub entries-are : entries ≡ (take (4 * t .entries) entries₀ ++ dataWords (dataOf q done)) ++ drop (4 * written) entries₀
+  pub written-is : written ≡ t .entries + length (dataOf q done)
+
+-- how far the walk is
+pub record Sofar (q : Call) (t : Transaction) (ids₀ entries₀ journal₀ : List ℕ) (ids entries journal : List ℕ) (c : Controls)
+    (s : State)
+    (visits listed written : ℕ) : Type 0 where
+  -- the visits so far, and the members of the open chain
+  pub done : List Visit
+  pub members : List ℕ
+  pub whole : visitsFrom q ≡ done ++ walk (ruleCount q - visits) q
+      (record { next = s .next; members = members; controls = controlsOf c })
+  pub going : Going done
+  pub lists : Written q t ids₀ entries₀ journal₀ done ids entries journal visits listed written
+  pub controls : Became (t .controls) c (controlsAfter (controlsOf (t .controls)) done)
+  pub not-off : isOff (modeUnder q (controlsOf c)) ≡ false
+  pub agree : matchedIn (drop (entryBy s visits) (journalOf done)) ≡ members
+  pub entry : entryBy s visits ≤ visits
+  pub ahead : visits ≤ s .next
+
+pub sofar-none : (q : Call) (t : Transaction) (codes ids entries journal : List ℕ) → q .transaction .controls ≡ controlsOf
+    (t .controls)
+    → Ready q t codes ids entries journal
+    → Sofar q t ids entries journal ids entries journal (t .controls) (record { next = 0; chained = false; first = 0 }) 0 (t .ids)
+    (t .entries)
+sofar-none q t codes ids entries journal held ready =
+    record {
+      done = [];
+      members = [];
+      whole = rw (sub-zero, held);
+      going = tt;
+      lists = record {
+        count = refl;
+        journal-is = refl;
+        ids-are = rw (append-nil (take (t .ids) ids), take-append-drop (t .ids) ids);
+        listed-is = omega arith;
+        entries-are = rw (append-nil (take (4 * t .entries) entries), take-append-drop (4 * t .entries) entries);
+        written-is = omega arith;
+      };
+      controls = became-same (t .controls);
+      not-off = ready .not-off;
+      agree = refl;
+      entry = omega arith;
+      ahead = omega arith;
+    }
+
+-- ROOM AND LENGTHS
+
+module _ (q : Call) (t : Transaction) (codes ids₀ entries₀ journal₀ : List ℕ) (ready : Ready q t codes ids₀ entries₀ journal₀)
+    (done rest : List Visit) (whole : visitsFrom q ≡ done ++ rest) where
+  visits-room : length done + length rest ≤ ruleCount q
+  visits-room = omega (arith, length-append done rest, ap length whole, ready .visits-few)
+
+  ids-room : length (idsOf q done) + length (idsOf q rest) ≤ ruleCount q
+  ids-room =
+      let z : length (idsOf q (visitsFrom q)) ≡ length (idsOf q done ++ idsOf q rest) = ap length
+      (ap (idsOf q) whole ∙ ids-append q done rest) in
+      omega (arith, length-append (idsOf q done) (idsOf q rest), ready .ids-few)
+
+  data-room : length (dataOf q done) + length (dataOf q rest) ≤ ruleCount q
+  data-room =
+      let z : length (dataOf q (visitsFrom q)) ≡ length (dataOf q done ++ dataOf q rest) = ap length
+      (ap (dataOf q) whole ∙ data-append q done rest) in
+      omega (arith, length-append (dataOf q done) (dataOf q rest), ready .data-few)
+
+  module _ (ids entries journal : List ℕ) (visits listed written : ℕ)
+      (w : Written q t ids₀ entries₀ journal₀ done ids entries journal visits listed written) where
+    pub journal-done : length (journalWords (journalOf done)) ≡ 2 * visits
+    journal-done = omega (arith, length-journal-words (journalOf done), length-journal done, w .count)
+
+    pub journal-inside : 2 * visits + 2 * length rest ≤ length journal₀
+    journal-inside = omega (arith, visits-room, w .count, ready .journal-room)
+
+    pub ids-done : length (take (t .ids) ids₀ ++ idsOf q done) ≡ listed
+    ids-done =
+        omega (
+          arith,
+          length-append (take (t .ids) ids₀) (idsOf q done),
+          length-take-le (t .ids) ids₀ (omega (arith, ready .ids-room)),
+          w .listed-is,
+        )
+
+    pub ids-inside : listed + length (idsOf q rest) ≤ length ids₀
+    ids-inside = omega (arith, ids-room, w .listed-is, ready .ids-room)
+
+    pub entries-done : length (take (4 * t .entries) entries₀ ++ dataWords (dataOf q done)) ≡ 4 * written
+    entries-done =
+        omega (
+          arith,
+          length-append (take (4 * t .entries) entries₀) (dataWords (dataOf q done)),
+          length-data-words (dataOf q done),
+          length-take-le (4 * t .entries) entries₀ (omega (arith, ready .entries-room)),
+          w .written-is,
+        )
+
+    pub entries-inside : 4 * written + 4 * length (dataOf q rest) ≤ length entries₀
+    entries-inside = omega (arith, data-room, w .written-is, ready .entries-room)
+
+    pub journal-length : length journal ≡ length journal₀
+    journal-length =
+        rw (w .journal-is) (whole-length (journalWords (journalOf done)) journal₀ (2 * visits) journal-done
+        (omega (arith, journal-inside)))
+
+    pub ids-length : length ids ≡ length ids₀
+    ids-length =
+        rw (w .ids-are) (whole-length (take (t .ids) ids₀ ++ idsOf q done) ids₀ listed ids-done (omega (arith, ids-inside)))
+
+    pub entries-length : length entries ≡ length entries₀
+    entries-length =
+        rw (w .entries-are)
+        (whole-length (take (4 * t .entries) entries₀ ++ dataWords (dataOf q done)) entries₀ (4 * written) entries-done
+        (omega (arith, entries-inside)))
+
+-- the lists at the head of a turn, and the ranges that are held
+module _ (q : Call) (t : Transaction) (codes ids₀ entries₀ journal₀ : List ℕ) (ready : Ready q t codes ids₀ entries₀ journal₀)
+    (ids entries journal : List ℕ) (c : Controls) (s : State) (visits listed written : ℕ)
+    (so : Sofar q t ids₀ entries₀ journal₀ ids entries journal c s visits listed written) where
+  abbrev left : List Visit
+  left = walk (ruleCount q - visits) q (record { next = s .next; members = so .members; controls = controlsOf c })
+
+  pub journal-same : length journal ≡ length journal₀
+  journal-same =
+      journal-length q t codes ids₀ entries₀ journal₀ ready (so .done) left (so .whole) ids entries journal visits listed written
+      (so .lists)
+
+  pub ids-same : length ids ≡ length ids₀
+  ids-same = ids-length q t codes ids₀ entries₀ journal₀ ready (so .done) left (so .whole) ids entries journal visits listed
+      written (so .lists)
+
+  pub entries-same : length entries ≡ length entries₀
+  entries-same =
+      entries-length q t codes ids₀ entries₀ journal₀ ready (so .done) left (so .whole) ids entries journal visits listed written
+      (so .lists)
+
+  pub few-ranges : c .ranges ≤ 256
+  few-ranges =
+      let m = so .controls .meaning in
+      let z : controlsAfter (controlsOf (t .controls)) (visitsFrom q) ≡ controlsAfter (controlsOf c) left =
+      ap (controlsAfter (controlsOf (t .controls))) (so .whole)
+      ∙ (controls-append (controlsOf (t .controls)) (so .done) left ∙ ap (λ (x : reading.Controls). controlsAfter x left) (sym m))
+      in
+      let g : Grown (controlsOf c) (controlsAfter (controlsOf (t .controls)) (visitsFrom q)) =
+      rw z (walk-grows (ruleCount q - visits) q (record { next = s .next; members = so .members; controls = controlsOf c })) in
+      let l : length (controlsOf c .ranges) ≡ length (controlsAfter (controlsOf (t .controls)) (so .done) .ranges) = ap
+      (λ (x : reading.Controls). length (x .ranges)) m in
+      omega (arith, became-ranges (so .controls), g .ranges, ready .ranges, l)
+
+-- THE END
+
+-- what is written at the end is what is promised
+pub finished : (q : Call) (t : Transaction) (ids₀ entries₀ journal₀ ids entries journal : List ℕ) (c : Controls)
+    (visits listed written last : ℕ) (e : Ending)
+    (stop : OptionIntervention)
+    → Written q t ids₀ entries₀ journal₀ (visitsFrom q) ids entries journal visits listed written
+    → Became (t .controls) c (controlsAfter (controlsOf (t .controls)) (visitsFrom q))
+    → cond (isErrs e) 10 0 ≡ answerBy (visitsFrom q) → cond (isErrs e) last 0 ≡ errorIndexBy (visitsFrom q)
+    → isAllows e ≡ allowedBy (visitsFrom q) → stop ≡ interventionBy (visitsFrom q)
+    → Walked q t ids₀ entries₀ journal₀ (endedBy e last visits listed written stop c) ids entries journal
+finished q t ids₀ entries₀ journal₀ ids entries journal c visits listed written last e stop w b a x l i =
+    record {
+      answer = a;
+      error = x;
+      visits = sym (w .count);
+      journal-numbers =
+          let n : 2 * visits ≡ length (journalWords (journalOf (visitsFrom q))) =
+          omega (arith, length-journal-words (journalOf (visitsFrom q)), length-journal (visitsFrom q), w .count) in
+          w .journal-is ∙ ap (λ (k : ℕ). journalWords (journalOf (visitsFrom q)) ++ drop k journal₀) n;
+      ids-listed =
+          rw (w .ids-are, w .listed-is, ← drop-drop (length (idsOf q (visitsFrom q))) (t .ids) ids₀)
+          (append-assoc (take (t .ids) ids₀) (idsOf q (visitsFrom q))
+          (drop (length (idsOf q (visitsFrom q))) (drop (t .ids) ids₀)));
+      data-numbers =
+          let d = dataWords (dataOf q (visitsFrom q)) in
+          let n : 4 * written ≡ 4 * t .entries + length d = omega
+          (arith, length-data-words (dataOf q (visitsFrom q)), w .written-is) in
+          rw (w .entries-are, n, ← drop-drop (length d) (4 * t .entries) entries₀)
+          (append-assoc (take (4 * t .entries) entries₀) d (drop (length d) (drop (4 * t .entries) entries₀)));
+      ids-used = w .listed-is;
+      data-used = w .written-is;
+      controls = b;
+      allowed = l;
+      intervention = i;
+    }
+
+pub sofar-end : (q : Call) (t : Transaction) (ids₀ entries₀ journal₀ ids entries journal : List ℕ) (c : Controls) (s : State)
+    (visits listed written : ℕ)
+    → Sofar q t ids₀ entries₀ journal₀ ids entries journal c s visits listed written → ruleCount q ≤ s .next
+    → Walked q t ids₀ entries₀ journal₀ (endedBy Ending.GoesOn 0 visits listed written OptionIntervention.None c) ids entries
+    journal
+sofar-end q t ids₀ entries₀ journal₀ ids entries journal c s visits listed written so h =
+    let e : visitsFrom q ≡ so .done ++ [] =
+    rw (← walk-end (ruleCount q - visits) q (record { next = s .next; members = so .members; controls = controlsOf c }) h)
+    (so .whole) in
+    let d : visitsFrom q ≡ so .done = e ∙ append-nil (so .done) in
+    finished q t ids₀ entries₀ journal₀ ids entries journal c visits listed written 0 Ending.GoesOn OptionIntervention.None
+    (rw d (so .lists))
+    (rw d (so .controls))
+    (rw e (sym (answer-after (so .done) [] (so .going))))
+    (rw e (sym (error-after (so .done) [] (so .going))))
+    (rw e (sym (allowed-after (so .done) [] (so .going))))
+    (rw e (sym (intervention-after (so .done) [] (so .going))))

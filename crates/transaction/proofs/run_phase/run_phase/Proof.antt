@@ -1,0 +1,231 @@
+-- `transaction::run_phase::run_phase` meets its contract.
+use Prim.Native.Nat.{ℕ, _≤_, _/_, _-_}
+use mathlib.Core.Path.{_≡_, sym, _∙_}
+use mathlib.Core.List.{List, [], _++_, append-nil}
+use native.Mathlib.Omega.{arith}
+use denote.Ref.{now}
+use lib.ListN.{length, take, drop, replicate}
+use lib.Seq.{take-all}
+use Rattle.reading.specs.Lists.{over}
+use Rattle.reading.specs.Records.{actionList}
+use Rattle.reading.specs.Walk.{nothingToDo}
+use Rattle.reading.specs.Refusals.{refusalOf}
+use Rattle.lists.proofs.RecordLaws.{length-actions}
+use Rattle.apply.specs.Codes.{codesOf}
+use Rattle.refusals.specs.FirstRefusal.{firstOfSeven}
+use Rattle.transaction.proofs.Promise.{few-of-seven}
+use Rattle.transaction.proofs.Tested.{Given, callAt, lent-is, idle-is, digested, limited}
+use Rattle.transaction.proofs.Tested.{ran-first, ran-by, ran-nothing, ready-at, ran-at}
+use borrow.Author.Needs.{needs}
+use Rattle.transaction.proofs.run_phase.run_phase.Statement.{statement}
+use Rattle.transaction.proofs.run_phase.run_phase.Tie as tie
+
+abbrev given : tie.Start → Given
+given c =
+    record {
+      phase = c .args .phase;
+      mode = c .args .mode;
+      status = c .args .status;
+      rules = now (c .args .rules);
+      actions = now (c .args .actions);
+      markers = now (c .args .markers);
+      text = now (c .args .text);
+      outcomes = now (c .args .outcomes);
+      t = c .args .t;
+      ids = now (c .args .ids);
+      entries = now (c .args .entries);
+      journal = now (c .args .journal);
+    }
+
+first-refusal-requires : tie.Need-first-refusal-requires
+first-refusal-requires c κs = search needs
+
+as-lent-requires : tie.Need-as-lent-requires
+as-lent-requires c κs = search needs
+
+-- earlier places, and what was given there
+abbrev past-seven : tie.After-write-codes → tie.Else1
+past-seven c = c .before .before
+
+abbrev coded : tie.After-limit-refusal → tie.After-write-codes
+coded c = c .before .before .before .before
+
+abbrev past-nine : tie.After-is-idle → tie.Else2
+past-nine c = c .before .before .before
+
+abbrev given-first : tie.After-first-refusal → Given
+given-first c = given (c .before .before .before .before .before .before .before .before .before)
+
+abbrev given-coded : tie.After-write-codes → Given
+given-coded c = given-first (past-seven c .before)
+
+abbrev given-idle : tie.After-is-idle → Given
+given-idle c = given-coded (coded (past-nine c .before))
+
+-- the codes as `write_codes` left them
+abbrev left : tie.After-write-codes → List ℕ
+left c = c .write-codes .last .1 .1 .0
+
+first : (c : tie.After-first-refusal) → c .first-refusal .result ≡ firstOfSeven (callAt (given-first c))
+first c = c .first-refusal .ensures (callAt (given-first c)) (lent-is (given-first c))
+
+zero : (c : tie.Else1) → firstOfSeven (callAt (given-first (c .before))) ≡ 0
+zero c = sym (first (c .before)) ∙ c .if1 .left
+
+codes : (c : tie.After-write-codes)
+    → left c ≡ over (replicate 4096 0) (codesOf (given-coded c .text) (actionList (given-coded c .actions)))
+codes c = digested (given-coded c) (zero (past-seven c)) (left c) (c .write-codes .ensures)
+
+room : (c : tie.After-write-codes) → length (left c) ≡ 4096
+room c = c .write-codes .kept .1 .1 .0
+
+-- a part of them that is lent
+fits : (d : List ℕ) (n : ℕ) → n ≤ 4096 → length d ≡ 4096 → n ≤ length (d ++ [])
+fits d n h e = rw append-nil (omega arith)
+
+front : (d : List ℕ) (n : ℕ) → take (n - 0) (drop 0 (d ++ [])) ≡ take n d
+front d n =
+    let z : n - 0 ≡ n = omega arith in
+    rw (z, append-nil d)
+
+few-fit : (c : tie.After-write-codes) → length (given-coded c .actions) / 6 ≤ length (left c ++ [])
+few-fit c =
+    let few : length (given-coded c .actions) / 6 ≤ 4096 =
+    omega (arith, few-of-seven (callAt (given-coded c)) (zero (past-seven c)), length-actions (given-coded c .actions)) in
+    fits (left c) (length (given-coded c .actions) / 6) few (room c)
+
+last : (c : tie.After-limit-refusal) → c .limit-refusal .result ≡ refusalOf (callAt (given-coded (coded c)))
+last c =
+    let p = coded c in
+    limited (given-coded p) (zero (past-seven p)) (left p) (codes p) _ (c .limit-refusal .result)
+    (front (left p) (length (given-coded p .actions) / 6)) (c .limit-refusal .ensures)
+
+passed : (c : tie.Else2) → refusalOf (callAt (given-coded (coded (c .before)))) ≡ 0
+passed c = sym (last (c .before)) ∙ c .if2 .left
+
+idle : (c : tie.After-is-idle) → nothingToDo (callAt (given-idle c)) ≡ c .is-idle .result
+idle c =
+    let n = c .before .mode-of-number in
+    idle-is (given-idle c) (n .result) (c .is-idle .result) (n .ensures) (c .is-idle .ensures)
+
+returns : tie.Need-returns
+returns c =
+    let p = c .before .before in
+    ran-first (given-first p) (p .first-refusal .result) (c .as-lent .result) (c .as-lent .ensures)
+    (first p) (c .before .if1 .taken)
+
+sub-write-codes : tie.Need-sub-write-codes
+sub-write-codes c = search needs
+
+part-codes-start : tie.Need-part-codes-start
+part-codes-start c = search needs
+
+part-codes-end : tie.Need-part-codes-end
+part-codes-end c = search needs
+
+write-codes-requires : tie.Need-write-codes-requires
+write-codes-requires c κs = search needs
+
+sub-limit-refusal : tie.Need-sub-limit-refusal
+sub-limit-refusal c = search needs
+
+part-limit-refusal-start : tie.Need-part-limit-refusal-start
+part-limit-refusal-start c = search needs
+
+part-limit-refusal-end : tie.Need-part-limit-refusal-end
+part-limit-refusal-end c = few-fit (c .before .before)
+
+limit-refusal-requires : tie.Need-limit-refusal-requires
+limit-refusal-requires c κs = search needs
+
+as-lent-requires-2 : tie.Need-as-lent-requires-2
+as-lent-requires-2 c κs = search needs
+
+returns-2 : tie.Need-returns-2
+returns-2 c =
+    let b = c .before in
+    let p = b .before in
+    ran-by (given-coded (coded p)) (p .limit-refusal .result) (c .as-lent2 .result) (c .as-lent2 .ensures)
+    (last p) (b .if2 .taken)
+
+mode-of-number-requires : tie.Need-mode-of-number-requires
+mode-of-number-requires c κs = search needs
+
+is-idle-requires : tie.Need-is-idle-requires
+is-idle-requires c κs = search needs
+
+as-lent-requires-3 : tie.Need-as-lent-requires-3
+as-lent-requires-3 c κs = search needs
+
+returns-3 : tie.Need-returns-3
+returns-3 c =
+    let b = c .before in
+    let p = b .before in
+    ran-nothing (given-idle p) (c .as-lent3 .result) (c .as-lent3 .ensures) (passed (past-nine p)) (idle p ∙ b .if3 .taken)
+
+sub-walk-rules : tie.Need-sub-walk-rules
+sub-walk-rules c = search needs
+
+part-walk-rules-start : tie.Need-part-walk-rules-start
+part-walk-rules-start c = search needs
+
+part-walk-rules-end : tie.Need-part-walk-rules-end
+part-walk-rules-end c =
+    let d = coded (past-nine (c .before .before .before) .before) in
+    fits (left d) 4096 (omega arith) (room d)
+
+walk-rules-requires : tie.Need-walk-rules-requires
+walk-rules-requires c κs =
+    let b = c .before .before .before .before .before .before in
+    let p = b .before in
+    let d = coded (past-nine p .before) in
+    ready-at (given-idle p) (passed (past-nine p)) (idle p ∙ b .if3 .left) _
+    (front (left d) 4096 ∙ (take-all 4096 (left d) (omega (arith, room d)) ∙ codes d))
+
+same-length : tie.Need-same-length
+same-length c = search needs
+
+same-length-2 : tie.Need-same-length-2
+same-length-2 c = search needs
+
+same-length-3 : tie.Need-same-length-3
+same-length-3 c = search needs
+
+returns-4 : tie.Need-returns-4
+returns-4 c =
+    let w = c .before .before .before .before .before .before .walk-rules in
+    let b = c .before .before .before .before .before .before .before .before .before .before .before .before .before in
+    let p = b .before in
+    let lists = w .last .1 .1 .1 .1 .1 .1 .1 .1 .1 .1 in
+    ran-at (given-idle p) (passed (past-nine p)) (idle p ∙ b .if3 .left)
+    (w .result) (lists .0) (lists .1 .0) (lists .1 .1 .0) (w .ensures)
+
+pub run-phase-spec : {M : Type 1} → statement M
+run-phase-spec =
+    tie.close
+    (tie.spec
+    first-refusal-requires
+    as-lent-requires
+    returns
+    sub-write-codes
+    part-codes-start
+    part-codes-end
+    write-codes-requires
+    sub-limit-refusal
+    part-limit-refusal-start
+    part-limit-refusal-end
+    limit-refusal-requires
+    as-lent-requires-2
+    returns-2
+    mode-of-number-requires
+    is-idle-requires
+    as-lent-requires-3
+    returns-3
+    sub-walk-rules
+    part-walk-rules-start
+    part-walk-rules-end
+    walk-rules-requires
+    same-length
+    same-length-2
+    same-length-3
+    returns-4)

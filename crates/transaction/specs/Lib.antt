@@ -1,0 +1,2 @@
+pub mod RunPhase
+pub mod WalkRules

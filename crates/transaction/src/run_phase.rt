@@ -1,0 +1,106 @@
+// The phase call (`Transaction::run_phase` in engine/transaction.rs), by value: transaction in, transaction and answer out.
+use crate::outcome;
+use crate::types::Answer;
+use crate::types::CallSettings;
+use crate::types::Phase;
+use crate::types::Transaction;
+use crate::walk;
+use apply::codes;
+use control::fields;
+use reading::limits;
+use reading::widths;
+use refusals::first;
+use refusals::first::Sizes;
+use refusals::totals;
+ghost use mathlib.Core.Path.{_≡_};
+ghost use Rattle.transaction.specs.RunPhase.{callOf, Ran};
+
+// An answer that leaves the transaction as it was.
+fn as_lent(answer: u64, t: Transaction) -> Phase
+    ensures { λ r. ⌜ r ≡ record { answer = record { answer = answer; error = 0; visits = 0 }; transaction = t } ⌝ }
+{
+    let answer = Answer {
+        answer,
+        error: 0,
+        visits: 0,
+    };
+    Phase {
+        answer,
+        transaction: t,
+    }
+}
+
+// The phase call. Refusals first, in their order; a refused call leaves everything as it was lent. Ids and data entries are
+// written at the free ends of their lists, the journal from its start.
+pub fn run_phase(
+    t: Transaction,
+    phase: u64,
+    mode: u64,
+    status: u64,
+    rules: &[u64],
+    actions: &[u64],
+    markers: &[u64],
+    text: &[u8],
+    outcomes: &[u8],
+    ids: &mut [u64],
+    entries: &mut [u64],
+    journal: &mut [u64],
+) -> Phase
+    ensures { λ r. ⌜ Ran (callOf phase mode status (now (rules .entry)) (now (actions .entry)) (now (markers .entry)) (now (text .entry)) (now (outcomes .entry)) t (now (ids .entry)) (now (entries .entry)) (now (journal .entry)))
+        t (now (entries .entry)) (now (journal .entry)) r (now (ids .exit)) (now (entries .exit)) (now (journal .exit)) ⌝ }
+{
+    let ranges = t.controls.ranges;
+    let targets = t.controls.targets;
+    let sizes = Sizes {
+        ranges,
+        targets,
+        ids_used: t.ids,
+        entries_used: t.entries,
+        ids: ids.len(),
+        entries: entries.len() / widths::DATA_ENTRY,
+        journal: journal.len() / widths::JOURNAL_ENTRY,
+    };
+    let refusal = first::first_refusal(phase, mode, rules, actions, markers, text, outcomes, sizes);
+    if refusal != 0 {
+        return as_lent(refusal, t);
+    }
+    let mut codes = [0u16; limits::ACTIONS];
+    codes::write_codes(actions, text, &mut codes[0..]);
+    let used = actions.len() / widths::ACTION;
+    let limit = totals::limit_refusal(rules, &codes[0..used], ranges, targets);
+    if limit != 0 {
+        return as_lent(limit, t);
+    }
+    let settings = t.controls.settings;
+    let held = t.intervention;
+    if outcome::is_idle(
+        t.allowed,
+        held,
+        fields::mode_of_number(mode),
+        settings,
+        rules.len() / widths::RULE,
+    ) {
+        return as_lent(0, t);
+    }
+    let call = CallSettings {
+        phase,
+        mode,
+        status,
+    };
+    let c = t.controls;
+    walk::walk_rules(
+        c,
+        t.ids,
+        t.entries,
+        call,
+        rules,
+        actions,
+        markers,
+        text,
+        outcomes,
+        &codes[0..limits::ACTIONS],
+        ids,
+        entries,
+        journal,
+    )
+}
