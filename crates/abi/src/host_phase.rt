@@ -1,6 +1,6 @@
 // The phase call as a host makes it: its transaction is a record of numbers alone, for no enum crosses to C or Rust, and its markers
 // are unpacked to numbers. The record is read, the call made by value, and the record written anew. A record with a number that is
-// not known is refused as it is. The parts of a record are those of crates numbers, numbered and stops.
+// not known is refused as it is. The parts of a record are those of the modules values, host_controls and host_intervention.
 use crate::host_controls;
 use crate::host_controls::HostControls;
 use crate::host_intervention;

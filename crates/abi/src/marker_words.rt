@@ -4,7 +4,7 @@ use reading::widths;
 ghost use mathlib.Core.Path.{_≡_};
 ghost use Rattle.abi.specs.MarkerWords.{markerWordsOf, blank, keptOf};
 
-// Three numbers a marker, of the first 257 markers, and zeros behind them; and how many markers there are. There is room for one
+// Three numbers a marker, of the first 257 markers, and zeros after them; and how many markers there are. There is room for one
 // marker more than a phase call takes, so that the call itself refuses a longer list.
 pub struct MarkerWords {
     pub words: [u64; 771],

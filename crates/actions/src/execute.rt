@@ -62,7 +62,7 @@ fn put_control(kind: u64, position: u64, n: usize, controls: &mut [u64])
     }
 }
 
-// The index behind a rule's last action in a list of `n`: a rule that points outside the list has
+// The index after a rule's last action in a list of `n`: a rule that points outside the list has
 // those of its actions that are there.
 fn actions_end(n: usize, first: usize, count: usize) -> usize
     ensures { λ r. ⌜ r ≡ first + min count (n - first) ⌝ }

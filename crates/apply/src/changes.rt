@@ -1,4 +1,4 @@
-// Whether a closed unit's actions change the controls at all, by the codes of crates/digest. A unit's members are the matched
+// Whether a closed unit's actions change the controls at all, by the codes of the module codes. A unit's members are the matched
 // entries of a lent part of the journal.
 use reading::Rule;
 use reading::widths;
@@ -12,7 +12,7 @@ ghost use Rattle.reading.specs.Call.{noRule};
 ghost use Rattle.reading.specs.Records.{ruleList, journalList, matchedIn};
 ghost use Rattle.apply.specs.UnitChanges.{ruleChanges, unitChanges};
 
-// The index behind a rule's last code in a list of `n`: a rule that points outside the list has those of its codes that are
+// The index after a rule's last code in a list of `n`: a rule that points outside the list has those of its codes that are
 // there.
 pub fn codes_end(n: usize, first: usize, count: usize) -> usize
     ensures { λ r. ⌜ r ≡ first + min count (n - first) ⌝ }

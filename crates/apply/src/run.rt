@@ -1,4 +1,4 @@
-// What a closed unit's actions do to the controls (`TransactionControls::apply`), by the codes of crates/digest, so that no
+// What a closed unit's actions do to the controls (`TransactionControls::apply`), by the codes of the module codes, so that no
 // text but that of added ranges is read again. A unit's members are the matched entries of a lent part of the journal.
 use crate::append;
 use crate::append::ControlCounts;

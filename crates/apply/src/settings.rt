@@ -1,4 +1,4 @@
-// The mode, the body access or the body processor that an action sets, by its code of crates/digest.
+// The mode, the body access or the body processor that an action sets, by its code of the module codes.
 use control::state::Settings;
 use reading::AccessSetting;
 use reading::BodyAccess;

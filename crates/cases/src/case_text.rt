@@ -127,7 +127,7 @@ pub fn entry_controls(c: Case) -> Controls {
     changed.controls
 }
 
-// A byte of the input; a line end stands for what lies behind its end.
+// A byte of the input; a line end stands for what lies after its end.
 fn byte_at(s: &[u8], at: usize) -> u8 {
     if at < s.len() { s[at] } else { 10 }
 }

@@ -18,7 +18,7 @@ use ruleset::rules;
 use text::ascii;
 use text::span;
 
-// What stands behind the last visit.
+// What stands after the last visit.
 pub enum Words {
     Nothing,
     Stops,
@@ -63,7 +63,7 @@ fn fill_number(left: usize, n: u64) -> usize {
     less(left, k)
 }
 
-// The rest of a column, and the two blanks behind it.
+// The rest of a column, and the two blanks after it.
 fn close(left: usize) {
     let blanks = [32u8; 42];
     if left <= 42 {
@@ -277,8 +277,8 @@ fn is_break(rules: &[u64], e: JournalEntry) -> bool {
     true
 }
 
-// The journal's entry behind the last break before an entry.
-fn behind_break(rules: &[u64], journal: &[u64; 32], at: usize) -> usize {
+// The journal's entry after the last break before an entry.
+fn past_break(rules: &[u64], journal: &[u64; 32], at: usize) -> usize {
     let mut first = 0;
     let mut k = 0;
     while k < at {
@@ -333,7 +333,7 @@ fn write_last(words: Words) {
 
 // What the journal and the link flags tell of a matched visit.
 fn write_matched(rules: &[u64], journal: &[u64; 32], at: usize, index: u64) {
-    let first = behind_break(rules, journal, at);
+    let first = past_break(rules, journal, at);
     if is_link(rules, index) {
         write(b"matched  waits");
         if !has_matched(journal, first, at) {
@@ -486,7 +486,7 @@ fn mode_number(mode: RuleEngineMode) -> u64 {
     }
 }
 
-// The mode that is set, with `, ` behind it where ranges follow.
+// The mode that is set, with `, ` after it where ranges follow.
 fn write_setting(setting: ModeSetting, ranges: usize) {
     match setting {
         ModeSetting::Unset => write_none(ranges),

@@ -29,7 +29,7 @@ fn write_after(p: Phase, ids: &[u64; 16], entries: &[u64; 64]) {
     case_walk::write_end(after.allowed, stop);
 }
 
-// What stands behind the last visit. The transaction had neither allow nor intervention before the call, so that visit gave
+// What stands after the last visit. The transaction had neither allow nor intervention before the call, so that visit gave
 // what is found.
 fn last_words(t: Transaction) -> Words {
     let stop = t.intervention;

@@ -42,14 +42,14 @@ module _ {A : Type 0} (make : ℕ → ℕ → A) (read : A → ℕ) (xs ys colum
 
 -- two arrays that agree below n and from n on
 array-one : (n : ℕ) (a b : List ℕ) → length a ≡ length b → ((k : ℕ) → k < n → getD a k 0 ≡ getD b k 0) → drop n a ≡ drop n b → a ≡ b
-array-one n a b l below behind = ext-getD 0 a b l (λ k h. go k (ltb k n) refl)
+array-one n a b l below past = ext-getD 0 a b l (λ k h. go k (ltb k n) refl)
   where
     go : (k : ℕ) (t : Bool) → ltb k n ≡ t → getD a k 0 ≡ getD b k 0
     go k true d = below k (ltb-true k n d)
     go k false d =
         let q : n + (k - n) ≡ k = omega (arith, ltb-false k n d) in
         let e : getD a (n + (k - n)) 0 ≡ getD b (n + (k - n)) 0
-        = sym (getD-drop n a (k - n) 0) ∙ (ap (λ (m : List ℕ). getD m (k - n) 0) behind ∙ getD-drop n b (k - n) 0) in
+        = sym (getD-drop n a (k - n) 0) ∙ (ap (λ (m : List ℕ). getD m (k - n) 0) past ∙ getD-drop n b (k - n) 0) in
         rw q at e
 
 module _ {A : Type 0} (make : ℕ → ℕ → A) (n m : ℕ) (xs ys us vs : List ℕ) (same : pairList make n xs ys ≡ pairList make m us vs) where

@@ -39,7 +39,7 @@ pub record New (c : Controls) : Type 0 where
   pub whole : c ≡ unset
   pub meaning : controlsOf c ≡ noControls
 
--- a change: what the controls then are, and that every place behind those in use is as found
+-- a change: what the controls then are, and that every place after those in use is as found
 pub record Became (before after : Controls) (c : reading.Controls) : Type 0 where
   pub meaning : controlsOf after ≡ c
   pub starts : drop (after .ranges) (after .starts) ≡ drop (after .ranges) (before .starts)

@@ -85,7 +85,7 @@ pub fn target_count(c: Controls) -> CountAnswer
     }
 }
 
-// The target at a place of the list, counted from 0, or none behind its end.
+// The target at a place of the list, counted from 0, or none after its end.
 pub fn target_at(c: Controls, at: usize) -> TargetAnswer
     ensures { λ r. ⌜ Answered (r .answer) (r .target) (askTarget (controlsOf c) at) ⌝ }
 {

@@ -14,7 +14,7 @@ rangesCounted (CtlDirective.RequestBodyAccess a) = 0
 rangesCounted (CtlDirective.RequestBodyProcessor p) = 0
 rangesCounted CtlDirective.Unsupported = 0
 
--- what a call that is turned away answers
+-- what a call that is refused answers
 abbrev pub refusedOutcome : ℕ → ReadAnswer
 refusedOutcome n = record { answer = n; directive = CtlDirective.Unsupported }
 

@@ -62,7 +62,7 @@ dashStep s =
 abbrev pub otherStep : PartState → ℕ → Step
 otherStep s b = cond (isBlank b) (blankStep s) (cond (eqb b 45) (dashStep s) (cond (eqb b 43) (plusStep s) Step.Bad))
 
--- a part that ends behind its "-", and one that has none
+-- a part that ends after its "-", and one that has none
 abbrev pub pairEnd : ℕ → ℕ → PartEnd
 pairEnd first second = cond (leb first second) (PartEnd.Counts 1) PartEnd.Bad
 

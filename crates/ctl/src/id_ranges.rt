@@ -1,5 +1,5 @@
 // The ranges of a list of ids, the value of `ctl:ruleRemoveById` (`parse_id_ranges`), written to two lent lists. A list is read
-// twice: crate range_count sees first whether all of it is supported and how many ranges it has, so that nothing is written
+// twice: the module range_count sees first whether all of it is supported and how many ranges it has, so that nothing is written
 // before the whole is known to fit.
 use reading::IdPart;
 use reading::Number;
@@ -23,8 +23,8 @@ fn ids_around(t: &[u8], k: usize) -> IdPart
         return IdPart::Bad;
     };
     let from = k + 1;
-    let behind = trim::trim(&t[from..]);
-    let Number::Value(end) = number::read_number(behind) else {
+    let past = trim::trim(&t[from..]);
+    let Number::Value(end) = number::read_number(past) else {
         return IdPart::Bad;
     };
     if end < start {

@@ -1,5 +1,5 @@
 // How many ranges a list of ids has, the value of `ctl:ruleRemoveById` (`parse_id_ranges`): one pass over its bytes, which are
-// most of what a large call reads. Crate ranges writes the ranges of a list that was counted.
+// most of what a large call reads. The module id_ranges writes the ranges of a list that was counted.
 use text::trim;
 ghost use mathlib.Core.Path.{_≡_};
 ghost use Prim.Native.Nat.{_≤_, _+_};
@@ -9,7 +9,7 @@ ghost use Rattle.reading.specs.Directive.{removalValue};
 ghost use Rattle.ctl.specs.CountRanges.{countOf, countIn};
 ghost use Rattle.ctl.specs.Scan.{isAfterDigits, hasDigits, partStart, withStage, digitStep, blankStep, dashStep, plusStep, otherStep, pairEnd, partEnd, leadingCommas};
 
-// How far into a number the pass is: before it, behind its '+', in its digits, in the blanks behind it.
+// How far into a number the pass is: before it, after its '+', in its digits, in the blanks after it.
 pub enum Stage {
     Start,
     Plus,
@@ -53,7 +53,7 @@ fn is_digit(b: u8) -> bool
     b <= 57
 }
 
-// Behind the blanks of a number no digit may follow.
+// After the blanks of a number no digit may follow.
 fn is_after_digits(stage: Stage) -> bool
     ensures { λ r. ⌜ r ≡ isAfterDigits stage ⌝ }
 {
@@ -216,7 +216,7 @@ fn counted(n: usize) -> RangeCount
     RangeCount::Ranges(n)
 }
 
-// The index behind the commas that stand from an index on. Empty parts count nothing, so a run of commas is passed at once.
+// The index after the commas that stand from an index on. Empty parts count nothing, so a run of commas is passed at once.
 fn skip_commas(value: &[u8], at: usize) -> usize
     ensures { λ r. ⌜ r ≡ at + leadingCommas (drop at (now (value .entry))) ⌝ }
 {
@@ -230,8 +230,8 @@ fn skip_commas(value: &[u8], at: usize) -> usize
     i
 }
 
-// How many ranges a list has, or that it is unsupported. More commas are looked for only behind an empty part: most parts are
-// numbers, and a look behind each would slow them.
+// How many ranges a list has, or that it is unsupported. More commas are looked for only after an empty part: most parts are
+// numbers, and a look after each would slow them.
 pub fn count_ranges(value: &[u8]) -> RangeCount
     ensures { λ r. ⌜ r ≡ countIn (removalValue (now (value .entry))) ⌝ }
 {

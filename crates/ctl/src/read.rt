@@ -23,7 +23,7 @@ fn range_count(directive: CtlDirective) -> usize
     }
 }
 
-// What the reader answers: 0 with the directive, or why the call is turned away (2, 6 or 7) with `Unsupported`.
+// What the reader answers: 0 with the directive, or why the call is refused (2, 6 or 7) with `Unsupported`.
 pub struct ReadAnswer {
     pub answer: u64,
     pub directive: CtlDirective,

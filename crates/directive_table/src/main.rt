@@ -1,6 +1,6 @@
 // Runs the directive reader on a table of directives from standard input, and writes a line for each.
 //
-// A row is seven numbers of five digits, each with one byte behind it: the lengths of name and value
+// A row is seven numbers of five digits, each with one byte after it: the lengths of name and value
 // in the row, how many fill bytes stand before each of them in its text, the fill byte, and the lengths
 // of the two lists; then name and value, and one byte more. oracle/make-directive-table writes the table.
 use ctl::read;
@@ -234,7 +234,7 @@ fn write_line(read: ReadAnswer, value: &[u8], starts: &[u64], ends: &[u64]) {
     write(b"\n");
 }
 
-// Reads `n` bytes behind the fill bytes, and answers where the text ends.
+// Reads `n` bytes after the fill bytes, and answers where the text ends.
 fn read_text(text: &mut [u8], fill: usize, n: usize) -> usize
     ensures { λ r. ⌜ Counts r (now (text .exit)) ⌝ }
 {

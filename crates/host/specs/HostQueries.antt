@@ -18,7 +18,7 @@ use Rattle.host.specs.declared.export_queries.HostTarget.{HostTarget}
 abbrev pub controlsIn : HostControls → reading.Controls
 controlsIn c = controlsOf (controlsFromHost c)
 
--- 01: "Questions to the controls give only 3". A host's record may hold a number that is not known: then 5, behind 3 as everywhere
+-- 01: "Questions to the controls give only 3". A host's record may hold a number that is not known: then 5, after 3 as everywhere
 unfoldable pub refusalIn : HostControls → Bool → ℕ
 refusalIn c known = cond (beyondLimits (controlsIn c)) 3 (cond known 0 5)
 

@@ -10,7 +10,7 @@ use Rattle.abi.specs.HostControls.{knownControls, controlsFromHost, controlsToH
 use Rattle.host.specs.HostQueries.{refusalIn}
 use Rattle.host.specs.declared.export_updates.HostChangeAnswer.{HostChangeAnswer}
 
--- An addition that answers `answer` and makes of the controls `after`. Refused by a number that is not known, behind 3, the
+-- An addition that answers `answer` and makes of the controls `after`. Refused by a number that is not known, after 3, the
 -- answer is 5. Where the answer is 0 the controls are changed as by the addition, and each number of the record is the one that
 -- stands for them; else the record is as lent.
 pub record HostAdded (before : HostControls) (r : HostChangeAnswer) (answer : ℕ) (after : reading.Controls) : Type 0 where

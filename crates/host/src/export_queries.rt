@@ -75,7 +75,7 @@ pub extern "C" fn tivembo_target_count(c: HostControls) -> HostQueryAnswer
     }
 }
 
-// The target at a place of the list, counted from 0, or none behind its end.
+// The target at a place of the list, counted from 0, or none after its end.
 #[no_mangle]
 pub extern "C" fn tivembo_target_at(c: HostControls, at: u64) -> HostTarget
     ensures { λ r. ⌜ r ≡ hostTarget c at ⌝ }

@@ -16,7 +16,7 @@ pub struct HostChangeAnswer {
     pub controls: HostControls,
 }
 
-// One range at the end. Behind 3 and an unknown number: 5 where the start is above the end, 8 where 256 are held.
+// One range at the end. After 3 and an unknown number: 5 where the start is above the end, 8 where 256 are held.
 #[no_mangle]
 pub extern "C" fn tivembo_remove_range(c: HostControls, start: u64, end: u64) -> HostChangeAnswer
     ensures { λ r. ⌜ HostAdded c r (addRangeAnswer (controlsIn c) (record { start = start; end = end }))
@@ -46,7 +46,7 @@ pub extern "C" fn tivembo_remove_range(c: HostControls, start: u64, end: u64) ->
     }
 }
 
-// One target at the end. Behind 3 and an unknown number: 9 where 64 are held.
+// One target at the end. After 3 and an unknown number: 9 where 64 are held.
 #[no_mangle]
 pub extern "C" fn tivembo_remove_target(
     c: HostControls,

@@ -37,7 +37,7 @@ module _ {A : Type 0} where
   records-cons width recordAt words rest n h = rw n (ap (λ (l : List A). recordAt words 0 ∷ l)
       (values-same (λ i. recordAt words (suc i)) (recordAt rest) (length rest / width) h))
 
--- records of any width: inside the list, and behind its end
+-- records of any width: inside the list, and after its end
 module _ {A : Type 0} (width : ℕ) (recordAt : List ℕ → ℕ → A) (words : List ℕ) where
   pub length-records : length (recordList width recordAt words) ≡ length words / width
   length-records = length-values (recordAt words) (length words / width)
@@ -45,8 +45,8 @@ module _ {A : Type 0} (width : ℕ) (recordAt : List ℕ → ℕ → A) (words :
   pub record-is : (i : ℕ) (d : A) → i < length words / width → getD (recordList width recordAt words) i d ≡ recordAt words i
   record-is i d h = getD-values (recordAt words) (length words / width) i d h
 
-  pub record-behind : (i : ℕ) (d : A) → length words / width ≤ i → getD (recordList width recordAt words) i d ≡ d
-  record-behind i d h = List·getD-eq-default (recordList width recordAt words) d {n = i} (omega (arith, length-records))
+  pub record-past : (i : ℕ) (d : A) → length words / width ≤ i → getD (recordList width recordAt words) i d ≡ d
+  record-past i d h = List·getD-eq-default (recordList width recordAt words) d {n = i} (omega (arith, length-records))
 
   pub drop-records : (i : ℕ) → i < length words / width
       → drop i (recordList width recordAt words) ≡ recordAt words i ∷ drop (suc i) (recordList width recordAt words)
@@ -64,9 +64,9 @@ module _ (words : List ℕ) where
   unfolding ruleList
   rule-is i d h = record-is 5 ruleFrom words i d h
 
-  pub rule-behind : (i : ℕ) (d : Rule) → length words / 5 ≤ i → getD (ruleList words) i d ≡ d
+  pub rule-past : (i : ℕ) (d : Rule) → length words / 5 ≤ i → getD (ruleList words) i d ≡ d
   unfolding ruleList
-  rule-behind i d h = record-behind 5 ruleFrom words i d h
+  rule-past i d h = record-past 5 ruleFrom words i d h
 
   pub drop-rules : (i : ℕ) → i < length words / 5 → drop i (ruleList words) ≡ ruleFrom words i ∷ drop (suc i) (ruleList words)
   unfolding ruleList
@@ -92,9 +92,9 @@ module _ (words : List ℕ) where
   unfolding actionList
   action-is i h = record-is 6 actionAt words i noAction h
 
-  pub action-behind : (i : ℕ) → length words / 6 ≤ i → getD (actionList words) i noAction ≡ noAction
+  pub action-past : (i : ℕ) → length words / 6 ≤ i → getD (actionList words) i noAction ≡ noAction
   unfolding actionList
-  action-behind i h = record-behind 6 actionAt words i noAction h
+  action-past i h = record-past 6 actionAt words i noAction h
 
   pub length-entries : length (journalList words) ≡ length words / 2
   unfolding journalList

@@ -1,4 +1,4 @@
--- The lists behind lent parts of a slice. Assumes nothing.
+-- The lists after lent parts of a slice. Assumes nothing.
 use Prim.Native.Nat.{ℕ, _-_, _≤_}
 use mathlib.Core.Path.{_≡_, sym, _∙_}
 use mathlib.Core.List.{List, []}
@@ -11,7 +11,7 @@ module _ {A : Type 0} where
   pub rest-eq : (s : List A) (a : ℕ) → take (length s - a) (drop a s) ≡ drop a s
   rest-eq s a = take-all (length s - a) (drop a s) (simp length-drop (omega arith))
 
-  -- `&s[n..]` behind the end
+  -- `&s[n..]` after the end
   pub rest-none : (s : List A) (a : ℕ) → length s ≤ a → take (length s - a) (drop a s) ≡ []
   rest-none s a h = rest-eq s a ∙ drop-of-length-le s h
 

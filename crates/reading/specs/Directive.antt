@@ -10,7 +10,7 @@ use Rattle.reading.specs.declared.BodyProcessor.{BodyProcessor}
 use Rattle.reading.specs.declared.RuleIdRange.{RuleIdRange}
 use Rattle.reading.specs.declared.CtlDirective.{CtlDirective}
 use Rattle.reading.specs.Lists.{any, keep, over}
-use Rattle.reading.specs.Text.{ascii, same, trim, fold, holdsByte, indexOf, cutBefore, cutBehind, idParts, anyBad, rangesIn}
+use Rattle.reading.specs.Text.{ascii, same, trim, fold, holdsByte, indexOf, cutBefore, cutAfter, idParts, anyBad, rangesIn}
 
 -- what a directive says: a target as its id text and its target text
 pub data Directive : Type 0 where
@@ -53,7 +53,7 @@ targetSides id target = cond (eqb (length id) 0 || eqb (length target) 0) unsupp
 
 abbrev pub targetValue : List ℕ → Directive
 targetValue value =
-    cond (holdsByte 59 value) (targetSides (trim (cutBefore 59 value)) (trim (cutBehind 59 value))) unsupported
+    cond (holdsByte 59 value) (targetSides (trim (cutBefore 59 value)) (trim (cutAfter 59 value))) unsupported
 
 -- by the folded name and the trimmed value. 01: "These fold too." "All else, auditEngine and auditLogParts included, is unsupported"
 abbrev pub directiveNamed : List ℕ → List ℕ → Directive

@@ -5,7 +5,7 @@ use lib.Dec.{ltb, eqb}
 use Rattle.reading.specs.declared.OptionU64.{OptionU64}
 
 pub record Reading : Type 0 where
-  -- whether a marker at the index after the closing rule, so directly behind it, is jumped to
+  -- whether a marker at the index after the closing rule, so directly after it, is jumped to
   pub adjacent : Bool
   -- whether a removed rule that is not a link breaks an open chain
   pub breaks : Bool
@@ -32,7 +32,7 @@ rustStatus last = 403
 
 -- THE MANUAL'S READING
 
--- The manual, skipAfter: processing goes on with the first rule behind the marker. 02: "A marker at the index after the
+-- The manual, skipAfter: processing goes on with the first rule after the marker. 02: "A marker at the index after the
 -- closing rule is jumped to."
 abbrev pub manualAdjacent : Bool
 manualAdjacent = true

@@ -16,7 +16,7 @@ module _ {A : Type 0} where
   values f zero = []
   values f (suc n) = f zero ∷ values (λ i. f (suc i)) n
 
-  -- one record for each whole group of `width` numbers; what is left behind the last group is no record
+  -- one record for each whole group of `width` numbers; what is left after the last group is no record
   abbrev pub recordList : ℕ → (List ℕ → ℕ → A) → List ℕ → List A
   recordList width recordAt words = values (recordAt words) (length words / width)
 

@@ -1,4 +1,4 @@
--- Why a call is turned away: 01's numbers 1 to 9 in their order, over everything lent. Sums are sums of natural numbers, so none wraps.
+-- Why a call is refused: 01's numbers 1 to 9 in their order, over everything lent. Sums are sums of natural numbers, so none wraps.
 use Prim.Native.Nat.{ℕ, _+_}
 use mathlib.Core.Bool.{Bool, not, cond, _&&_, _||_}
 use lib.ListN.{length}
@@ -33,7 +33,7 @@ refused3 q =
 unfoldable pub refused4 : Call → Bool
 refused4 q = not (eqb (length (q .outcomes)) (ruleCount q))
 
--- "a part outside its list or text": one that ends behind a list of so many entries
+-- "a part outside its list or text": one that ends after a list of so many entries
 abbrev pub outside : ℕ → ℕ → ℕ → Bool
 outside entries start len = ltb entries (start + len)
 

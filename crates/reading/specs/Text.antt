@@ -36,7 +36,7 @@ unfoldable pub trimStart : List ℕ → List ℕ
 trimStart [] = []
 trimStart (b ∷ bs) = cond (isBlank b) (trimStart bs) (b ∷ bs)
 
--- a byte before what is left of the bytes behind it: a blank with nothing left behind it goes
+-- a byte before what is left of the bytes after it: a blank with nothing left after it goes
 unfoldable pub before : ℕ → List ℕ → List ℕ
 before b [] = cond (isBlank b) [] (b ∷ [])
 before b (x ∷ xs) = b ∷ x ∷ xs
@@ -96,12 +96,12 @@ indexOf b (x ∷ xs) = cond (eqb x b) 0 (suc (indexOf b xs))
 abbrev pub holdsByte : ℕ → List ℕ → Bool
 holdsByte b s = ltb (indexOf b s) (length s)
 
--- the bytes before the first b, and those behind it
+-- the bytes before the first b, and those after it
 abbrev pub cutBefore : ℕ → List ℕ → List ℕ
 cutBefore b s = take (indexOf b s) s
 
-abbrev pub cutBehind : ℕ → List ℕ → List ℕ
-cutBehind b s = drop (suc (indexOf b s)) s
+abbrev pub cutAfter : ℕ → List ℕ → List ℕ
+cutAfter b s = drop (suc (indexOf b s)) s
 
 -- a byte in front of the first of the parts
 unfoldable pub onFirst : ℕ → List (List ℕ) → List (List ℕ)
@@ -131,7 +131,7 @@ idsFrom Number.Bad end = IdPart.Bad
 abbrev pub trimmedPart : List ℕ → IdPart
 trimmedPart p =
     cond (eqb (length p) 0) IdPart.Blank
-    (cond (holdsByte 45 p) (idsFrom (numberOf (trim (cutBefore 45 p))) (numberOf (trim (cutBehind 45 p)))) (oneId (numberOf p)))
+    (cond (holdsByte 45 p) (idsFrom (numberOf (trim (cutBefore 45 p))) (numberOf (trim (cutAfter 45 p)))) (oneId (numberOf p)))
 
 unfoldable pub idPart : List ℕ → IdPart
 idPart p = trimmedPart (trim p)

@@ -62,7 +62,7 @@ abbrev pub chainRest : List Rule → ℕ
 chainRest [] = 0
 chainRest (r ∷ rs) = cond (eqb (r .link) 1) (suc (chainRest rs)) 1
 
--- 01: "passes everything through the chain's closing rule": the index behind it, or behind the last rule
+-- 01: "passes everything through the chain's closing rule": the index after it, or after the last rule
 unfoldable pub afterChain : Call → ℕ → ℕ
 afterChain q i = i + chainRest (drop i (q .rules))
 

@@ -1,4 +1,4 @@
--- What refusals 8 and 9 count by the codes of crate digest, and the sums that they read.
+-- What refusals 8 and 9 count by the codes of apply::codes, and the sums that they read.
 use Prim.Native.Nat.{ℕ, _+_, _-_, _≤_, _<_, min}
 use mathlib.Core.Path.{_≡_}
 use mathlib.Core.Bool.{Bool, true, false, cond}

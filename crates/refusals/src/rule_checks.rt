@@ -7,7 +7,7 @@ ghost use Rattle.reading.specs.Lists.{any};
 ghost use Rattle.reading.specs.Records.{ruleList};
 ghost use Rattle.reading.specs.Refusals.{outside, badRule};
 
-// Whether a part ends behind a list of so many entries. The sum is never formed, so it can't wrap.
+// Whether a part ends after a list of so many entries. The sum is never formed, so it can't wrap.
 pub fn is_outside(entries: usize, start: u64, len: u64) -> bool
     ensures { λ r. ⌜ r ≡ outside entries start len ⌝ }
 {

@@ -1,4 +1,4 @@
-// Refusals 8 and 9: more ranges, or more targets, than a transaction may hold, counted rule by rule by the codes of crate digest.
+// Refusals 8 and 9: more ranges, or more targets, than a transaction may hold, counted rule by rule by the codes of apply::codes.
 use reading::limits;
 use reading::widths;
 ghost use mathlib.Core.Path.{_≡_};
@@ -100,7 +100,7 @@ fn follow(rules: &[u64], actions: usize) -> bool
 }
 
 // Whether so many held and those of all rules, counted rule by rule, exceed the limit. What a rule
-// adds is the difference of two sums: one behind its last action and one before its first.
+// adds is the difference of two sums: one after its last action and one before its first.
 fn sums_exceed(rules: &[u64], codes: &[u16], targets: bool, held: usize, limit: usize) -> bool
     ensures { λ r. ⌜ r ≡ addsBeyond (weightBy targets) limit held (ruleList (now (rules .entry))) (take 4096 (now (codes .entry))) ⌝ }
 {

@@ -1,7 +1,7 @@
 // A recorded case as a list of numbers: how its line is read, where its parts stand, and how a part is compared with what a
 // call gave. The layout is that of crates/replay/src/main.rt.
 //
-// Each walk over the list answers the place behind what it passed, and NOWHERE where the list has another shape there or
+// Each walk over the list answers the place after what it passed, and NOWHERE where the list has another shape there or
 // holds something else. A walk from NOWHERE ends there too.
 use actions::record;
 use reading::Intervention;
@@ -156,7 +156,7 @@ pub fn ahead(list: &[u64], at: usize, n: usize) -> usize {
     at + n
 }
 
-// The number behind `n` others.
+// The number after `n` others.
 fn number_after(list: &[u64], at: usize, n: usize) -> u64 {
     number_at(list, ahead(list, at, n))
 }
@@ -339,7 +339,7 @@ fn is_bytes(numbers: &[u64]) -> bool {
     true
 }
 
-// Whether the first five numbers are an entry's. The ranges behind them may be any: one that starts above its end removes nothing.
+// Whether the first five numbers are an entry's. The ranges after them may be any: one that starts above its end removes nothing.
 fn is_entry(list: &[u64]) -> bool {
     if 3 < number_at(list, 0) {
         return false;

@@ -52,8 +52,8 @@ pub fn outcome_at(outcomes: &[u8], index: usize) -> u8
     outcomes[index]
 }
 
-// The index behind the chain that the rule at an index belongs to: behind the first rule from there on
-// that is not a link, or behind the last rule.
+// The index after the chain that the rule at an index belongs to: after the first rule from there on
+// that is not a link, or after the last rule.
 pub fn after_chain(rules: &[u64], index: usize) -> usize
     ensures { λ r. ⌜ r ≡ index + chainRest (drop index (ruleList (now (rules .entry)))) ⌝ }
 {

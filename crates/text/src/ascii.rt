@@ -1,5 +1,5 @@
 // Bytes of a text: folding, comparison with a spelling, searching. Each function takes a whole slice; for a part of a lent
-// text see the crate parts.
+// text see the module span.
 ghost use mathlib.Core.Path.{_≡_};
 ghost use Rattle.reading.specs.Text.{same, foldByte, fold, indexOf};
 

@@ -1,4 +1,4 @@
-// Parts of a lent text: thin functions that lend a part on to those of the crates text and number.
+// Parts of a lent text: thin functions that lend a part on to those of the other modules.
 use crate::ascii;
 use crate::number;
 use crate::trim;
@@ -7,7 +7,7 @@ use reading::Part;
 ghost use mathlib.Core.Path.{_≡_};
 ghost use Rattle.reading.specs.Text.{same, partOf, trim, fold, numberOf};
 
-// A part of a text; what of it lies behind the text's end is left out.
+// A part of a text; what of it lies after the text's end is left out.
 pub fn part_of(text: &[u8], p: Part) -> &[u8]
     ensures { λ r. ⌜ now r ≡ partOf (now (text .entry)) p ⌝ }
 {

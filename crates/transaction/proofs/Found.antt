@@ -37,14 +37,14 @@ unfolding verdictAt idAt ruleAt outcomeAt controlsOf
 found-law q c i found h e = let z : min (c .ranges) 256 ≡ c .ranges = omega arith in rw z at e
 
 -- a visit has what was found in it
-found-by : (behind rest : ℕ) (chained : Bool) (first : ℕ) (found : Verdict) (link : Bool)
-    → foundBy behind rest chained first found link .verdict ≡ found
-found-by behind rest chained first Verdict.Missed link = refl
-found-by behind rest chained first Verdict.Matched true = refl
-found-by behind rest chained first Verdict.Matched false = refl
-found-by behind rest chained first Verdict.Removed true = refl
-found-by behind rest chained first Verdict.Removed false = refl
-found-by behind rest chained first Verdict.Error link = refl
+found-by : (past rest : ℕ) (chained : Bool) (first : ℕ) (found : Verdict) (link : Bool)
+    → foundBy past rest chained first found link .verdict ≡ found
+found-by past rest chained first Verdict.Missed link = refl
+found-by past rest chained first Verdict.Matched true = refl
+found-by past rest chained first Verdict.Matched false = refl
+found-by past rest chained first Verdict.Removed true = refl
+found-by past rest chained first Verdict.Removed false = refl
+found-by past rest chained first Verdict.Error link = refl
 
 pub visit-verdict : (rules : List Rule) (s : code.State) (visits : ℕ) (found : Verdict) (w : VisitOutcome)
     → w ≡ foundAt rules s visits found → w .verdict ≡ found

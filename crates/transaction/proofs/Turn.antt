@@ -82,18 +82,18 @@ take-none zero = refl
 take-none (suc n) = refl
 
 -- what a visit gives: what its unit does, if it closes one
-pub record Gave (q : Call) (closes : Bool) (unit : List ℕ) (behind : ℕ) (ids entries : List ℕ) (u : UnitOutcome) (ids′ entries′ : List ℕ)
+pub record Gave (q : Call) (closes : Bool) (unit : List ℕ) (past : ℕ) (ids entries : List ℕ) (u : UnitOutcome) (ids′ entries′ : List ℕ)
     : Type 0 where
   pub id-count : u .ids ≡ length (take (length ids) (keep closes (unitIds q unit)))
   pub ids-are : ids′ ≡ over ids (take (length ids) (keep closes (unitIds q unit)))
   pub entry-count : u .entries ≡ length (take (length entries / 4) (keep closes (unitData q unit)))
   pub entries-are : entries′ ≡ over entries (dataWords (take (length entries / 4) (keep closes (unitData q unit))))
-  pub next-is : u .next ≡ cond closes (min (afterFlow q behind (unitFlow q unit)) (ruleCount q)) behind
+  pub next-is : u .next ≡ cond closes (min (afterFlow q past (unitFlow q unit)) (ruleCount q)) past
   pub disruptive-is : u .disruptive ≡ cond closes (unitDisruptive q unit) DisruptiveOutcome.Nothing
 
-gave-unit : (q : Call) (closes : Bool) (unit : List ℕ) (behind : ℕ) (ids entries : List ℕ) (u : UnitOutcome) (ids′ entries′ : List ℕ)
-    → closes ≡ true → Wrote q unit behind ids entries u ids′ entries′ → Gave q closes unit behind ids entries u ids′ entries′
-gave-unit q closes unit behind ids entries u ids′ entries′ e w = record {
+gave-unit : (q : Call) (closes : Bool) (unit : List ℕ) (past : ℕ) (ids entries : List ℕ) (u : UnitOutcome) (ids′ entries′ : List ℕ)
+    → closes ≡ true → Wrote q unit past ids entries u ids′ entries′ → Gave q closes unit past ids entries u ids′ entries′
+gave-unit q closes unit past ids entries u ids′ entries′ e w = record {
   id-count = rw e (w .id-count);
   ids-are = rw e (w .ids-are);
   entry-count = rw e (w .entry-count);
@@ -103,20 +103,20 @@ gave-unit q closes unit behind ids entries u ids′ entries′ e w = record {
 }
 
 -- a unit lists no more than there is room for
-pub wrote-few : (q : Call) (unit : List ℕ) (behind : ℕ) (ids entries : List ℕ) (u : UnitOutcome) (ids′ entries′ : List ℕ)
-    → Wrote q unit behind ids entries u ids′ entries′ → (u .ids ≤ length ids) × (4 * u .entries ≤ length entries)
-wrote-few q unit behind ids entries u ids′ entries′ w = (
+pub wrote-few : (q : Call) (unit : List ℕ) (past : ℕ) (ids entries : List ℕ) (u : UnitOutcome) (ids′ entries′ : List ℕ)
+    → Wrote q unit past ids entries u ids′ entries′ → (u .ids ≤ length ids) × (4 * u .entries ≤ length entries)
+wrote-few q unit past ids entries u ids′ entries′ w = (
   omega (arith, w .id-count, length-take (length ids) (unitIds q unit)),
   omega (arith, w .entry-count, length-take (length entries / 4) (unitData q unit)),
 )
 
 -- of a visit that closes no unit
 abbrev nothing : ℕ → UnitOutcome
-nothing behind = record { ids = 0; entries = 0; next = behind; disruptive = DisruptiveOutcome.Nothing }
+nothing past = record { ids = 0; entries = 0; next = past; disruptive = DisruptiveOutcome.Nothing }
 
-gave-none : (q : Call) (closes : Bool) (unit : List ℕ) (behind : ℕ) (ids entries : List ℕ) → closes ≡ false
-    → Gave q closes unit behind ids entries (nothing behind) ids entries
-gave-none q closes unit behind ids entries e = record {
+gave-none : (q : Call) (closes : Bool) (unit : List ℕ) (past : ℕ) (ids entries : List ℕ) → closes ≡ false
+    → Gave q closes unit past ids entries (nothing past) ids entries
+gave-none q closes unit past ids entries e = record {
   id-count = rw (e, take-none {A = ℕ} (length ids));
   ids-are = rw (e, take-none {A = ℕ} (length ids));
   entry-count = rw (e, take-none {A = DataEntry} (length entries / 4));
@@ -542,7 +542,7 @@ module _ (turn : Turning) where
       visit-next : v .after .next ≡ cond (w .closes) (afterFlow q (w .after .next) (unitFlow q unit)) (w .after .next)
       visit-next = next-is q reading (so .members) (controlsOf c) s visits inside found found-is w w-is
 
-      -- the code goes no further than behind the last rule
+      -- the code goes no further than after the last rule
       next-by : (b : Bool) → w .closes ≡ b → u .next ≡ cond b (min (v .after .next) (ruleCount q)) (v .after .next)
       next-by true d =
           u-is .next-is
@@ -593,7 +593,7 @@ module _ (turn : Turning) where
         last-is : isLast (v .ending) ≡ not (isGoing e)
         last-is = last-kind (v .ending) ∙ ap (λ (x : Ending). not (isGoing x)) kind-is
 
-        -- the walk ends where the visit is the last or the mode is Off behind it
+        -- the walk ends where the visit is the last or the mode is Off after it
         tail-none : (a b : Bool) → not (isGoing e) ≡ a → isOff (modeUnder q (controlsOf c′)) ≡ b → (a || b) ≡ true → tail ≡ []
         tail-none true b ea eb h =
             ap (λ (x : Bool). keep (not x) (walk (ruleCount q - (visits + 1)) q (v .after))) (last-is ∙ ea)
@@ -833,8 +833,8 @@ module _ (turn : Turning) where
 pub inside-rules : (rules : List ℕ) (i : ℕ) → i < length rules / 5 → i < length (ruleList rules)
 inside-rules rules i h = omega (arith, length-rules rules)
 
-pub behind-rules : (rules : List ℕ) (i : ℕ) → length rules / 5 ≤ i → length (ruleList rules) ≤ i
-behind-rules rules i h = omega (arith, length-rules rules)
+pub past-rules : (rules : List ℕ) (i : ℕ) → length rules / 5 ≤ i → length (ruleList rules) ≤ i
+past-rules rules i h = omega (arith, length-rules rules)
 
 -- room in the journal for the visit to come
 pub journal-ahead : (q : Call) (t : Transaction) (codes ids₀ entries₀ journal₀ : List ℕ) → Ready q t codes ids₀ entries₀ journal₀

@@ -43,7 +43,7 @@ unfolding walk
 walk-off zero q st h = refl
 walk-off (suc k) q st h = rw (h, not-visited (ltb (st .next) (ruleCount q)))
 
--- it does not matter how far behind the last rule the walk stands
+-- it does not matter how far after the last rule the walk stands
 pub walk-clip : (k : ℕ) (q : Call) (next : ℕ) (ms : List ℕ) (c : Controls)
     → walk k q (record { next = min next (ruleCount q); members = ms; controls = c }) ≡ walk k q
     (record { next = next; members = ms; controls = c })

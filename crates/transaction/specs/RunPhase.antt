@@ -61,7 +61,7 @@ pub record Ran (q : Call) (t : Transaction) (entries journal : List ℕ) (r : Ph
   -- answer, error index, journal and its count, ids, data entries, controls, allow and intervention are those of 01, for
   -- refused calls too
   pub outcome : outcomeFound r ids′ entries′ journal′ ≡ outcomeOf q
-  -- the same of every single number of the two lists of records, also of one that is behind the last whole record
+  -- the same of every single number of the two lists of records, also of one that is after the last whole record
   pub journal-numbers : journal′ ≡ over journal (journalWords (journalOf (visitsOf q)))
   pub data-numbers : entries′ ≡ atFreeEnd (4 * t .entries) entries (dataWords (dataOf q (visitsOf q)))
   -- and of the places of the controls' arrays that are not in use: they are as found

@@ -1,5 +1,5 @@
 // The transaction that a phase call is lent, what the call answers, and how far its walk is on the way there. There is no
-// function here: specs/Phase.antt says what the call promises, and proofs/ has the laws of the walk that need no code.
+// function here: specs/RunPhase.antt says what the call promises, and proofs/ has the laws of the walk that need no code.
 use apply::append::ControlCounts;
 use control::state::Controls;
 use intervention::decide::Ending;

@@ -39,12 +39,12 @@ pub record Listed (all : List DataEntry) (before : List ℕ) (count : ℕ) (afte
   pub count-is : count ≡ length (take (length before / 4) all)
   pub words : after ≡ over before (dataWords (take (length before / 4) all))
 
--- Of a closed unit; `behind` is the index after its closing rule. Ids and data entries are written from the start of the lent
+-- Of a closed unit; `past` is the index after its closing rule. Ids and data entries are written from the start of the lent
 -- parts, as many as fit; an accepted call has room for all.
-pub record Wrote (q : Call) (unit : List ℕ) (behind : ℕ) (ids entries : List ℕ) (r : UnitOutcome) (ids′ entries′ : List ℕ) : Type 0 where
+pub record Wrote (q : Call) (unit : List ℕ) (past : ℕ) (ids entries : List ℕ) (r : UnitOutcome) (ids′ entries′ : List ℕ) : Type 0 where
   pub id-count : r .ids ≡ length (take (length ids) (unitIds q unit))
   pub ids-are : ids′ ≡ over ids (take (length ids) (unitIds q unit))
   pub entry-count : r .entries ≡ length (take (length entries / 4) (unitData q unit))
   pub entries-are : entries′ ≡ over entries (dataWords (take (length entries / 4) (unitData q unit)))
-  pub next-is : r .next ≡ min (afterFlow q behind (unitFlow q unit)) (ruleCount q)
+  pub next-is : r .next ≡ min (afterFlow q past (unitFlow q unit)) (ruleCount q)
   pub disruptive-is : r .disruptive ≡ unitDisruptive q unit

@@ -15,16 +15,16 @@ use Rattle.unit.specs.declared.visit.VisitOutcome.{VisitOutcome}
 abbrev pub passed : Verdict → ℕ → Bool → ℕ → VisitOutcome
 passed verdict next chained first = record { verdict = verdict; closes = false; after = record { next = next; chained = chained; first = first } }
 
--- a rule that is found to be so, by whether it is a link; `behind` is the index behind it, `rest` that behind its chain, and
+-- a rule that is found to be so, by whether it is a link; `past` is the index after it, `rest` that after its chain, and
 -- `chained` says whether a chain was open. Clause for clause as `visitBy` of the reading's Walk.
 abbrev pub foundBy : ℕ → ℕ → Bool → ℕ → Verdict → Bool → VisitOutcome
-foundBy behind rest chained first Verdict.Missed link = passed Verdict.Missed rest false first
-foundBy behind rest chained first Verdict.Matched true = passed Verdict.Matched behind true first
-foundBy behind rest chained first Verdict.Matched false =
-    record { verdict = Verdict.Matched; closes = true; after = record { next = behind; chained = false; first = first } }
-foundBy behind rest chained first Verdict.Removed true = passed Verdict.Removed rest false first
-foundBy behind rest chained first Verdict.Removed false = passed Verdict.Removed behind chained first
-foundBy behind rest chained first Verdict.Error link = passed Verdict.Error behind chained first
+foundBy past rest chained first Verdict.Missed link = passed Verdict.Missed rest false first
+foundBy past rest chained first Verdict.Matched true = passed Verdict.Matched past true first
+foundBy past rest chained first Verdict.Matched false =
+    record { verdict = Verdict.Matched; closes = true; after = record { next = past; chained = false; first = first } }
+foundBy past rest chained first Verdict.Removed true = passed Verdict.Removed rest false first
+foundBy past rest chained first Verdict.Removed false = passed Verdict.Removed past chained first
+foundBy past rest chained first Verdict.Error link = passed Verdict.Error past chained first
 
 -- the place in the journal of the open chain's first entry, else that of the entry to come
 abbrev pub entryBy : State → ℕ → ℕ

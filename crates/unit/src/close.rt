@@ -120,9 +120,9 @@ fn put_entries(
     w
 }
 
-// Closes a unit. `behind` is the index after its closing rule.
+// Closes a unit. `past` is the index after its closing rule.
 pub fn close_unit(
-    behind: usize,
+    past: usize,
     phase: u64,
     members: &[u64],
     rules: &[u64],
@@ -134,7 +134,7 @@ pub fn close_unit(
     entries: &mut [u64],
 ) -> UnitOutcome
     ensures { λ r. ⌜ ((rest : Rest) → Wrote (callWith phase (now (rules .entry)) (now (actions .entry)) (now (markers .entry)) (now (text .entry)) (now (outcomes .entry)) rest)
-        (matchedIn (journalList (now (members .entry)))) behind (now (ids .entry)) (now (entries .entry)) r (now (ids .exit)) (now (entries .exit))) ⌝ }
+        (matchedIn (journalList (now (members .entry)))) past (now (ids .entry)) (now (entries .entry)) r (now (ids .exit)) (now (entries .exit))) ⌝ }
 {
     let starter = rules::rule_at(rules, members::starter_of(members) as usize);
     let id = rules::rule_id(starter);
@@ -145,7 +145,7 @@ pub fn close_unit(
     let acts = execute::execute_actions(actions, starter, phase, &mut none[1..]);
     let flow = acts.flow;
     let disruptive = acts.disruptive;
-    let next = flow::after_flow(flow, behind, rules, actions, markers, text);
+    let next = flow::after_flow(flow, past, rules, actions, markers, text);
     UnitOutcome {
         ids: listed,
         entries: written,

@@ -1,4 +1,4 @@
-// Where the walk goes on behind a closed unit: what the flow action of its starter says.
+// Where the walk goes on after a closed unit: what the flow action of its starter says.
 use actions::record;
 use reading::FlowOutcome;
 use reading::OptionU64;
@@ -12,27 +12,27 @@ ghost use Rattle.reading.specs.Call.{Call, ruleCount};
 ghost use Rattle.reading.specs.Walk.{jumpFrom, afterFlow};
 ghost use Rattle.unit.specs.MemberList.{Rest, callWith};
 
-// A skip of n indexes from `behind` on, which goes no further than behind the last rule.
-fn skip_to(behind: usize, n: u64, rules: usize) -> usize
-    ensures { λ r. ⌜ r ≡ min (behind + n) rules ⌝ }
+// A skip of n indexes from `past` on, which goes no further than after the last rule.
+fn skip_to(past: usize, n: u64, rules: usize) -> usize
+    ensures { λ r. ⌜ r ≡ min (past + n) rules ⌝ }
 {
-    if rules <= behind {
+    if rules <= past {
         return rules;
     }
-    if (rules - behind) as u64 <= n {
+    if (rules - past) as u64 <= n {
         return rules;
     }
-    behind + n as usize
+    past + n as usize
 }
 
-// A marker is jumped to if its position is greater than `behind`; else the rest is passed.
-fn jump_to(behind: usize, found: OptionU64, rules: usize) -> usize
-    ensures { λ r. ⌜ ((q : Call) → q .reading ≡ rust → ruleCount q ≡ rules → r ≡ min (jumpFrom q behind found) rules) ⌝ }
+// A marker is jumped to if its position is greater than `past`; else the rest is passed.
+fn jump_to(past: usize, found: OptionU64, rules: usize) -> usize
+    ensures { λ r. ⌜ ((q : Call) → q .reading ≡ rust → ruleCount q ≡ rules → r ≡ min (jumpFrom q past found) rules) ⌝ }
 {
     let OptionU64::Some(position) = found else {
         return rules;
     };
-    if position <= behind as u64 {
+    if position <= past as u64 {
         return rules;
     }
     if rules as u64 <= position {
@@ -41,10 +41,10 @@ fn jump_to(behind: usize, found: OptionU64, rules: usize) -> usize
     position as usize
 }
 
-// The index that the walk goes on with, given the one behind the closing rule.
+// The index that the walk goes on with, given the one after the closing rule.
 pub fn after_flow(
     flow: FlowOutcome,
-    behind: usize,
+    past: usize,
     rules: &[u64],
     actions: &[u64],
     markers: &[u64],
@@ -52,22 +52,22 @@ pub fn after_flow(
 ) -> usize
     ensures { λ r. ⌜ ((phase : ℕ) (outcomes : List ℕ) (rest : Rest)
         → let q = callWith phase (now (rules .entry)) (now (actions .entry)) (now (markers .entry)) (now (text .entry)) outcomes rest in
-        r ≡ min (afterFlow q behind flow) (ruleCount q)) ⌝ }
+        r ≡ min (afterFlow q past flow) (ruleCount q)) ⌝ }
 {
     let n = rules.len() / widths::RULE;
     match flow {
         FlowOutcome::Continue => {
-            return skip_to(behind, 0, n);
+            return skip_to(past, 0, n);
         }
         FlowOutcome::Chain => {
-            return skip_to(behind, 0, n);
+            return skip_to(past, 0, n);
         }
         FlowOutcome::Skip(count) => {
-            return skip_to(behind, count, n);
+            return skip_to(past, count, n);
         }
         FlowOutcome::SkipAfter(position) => {
             let name = record::action_at(actions, position as usize).text;
-            return jump_to(behind, markers::marker(markers, text, name), n);
+            return jump_to(past, markers::marker(markers, text, name), n);
         }
     }
 }

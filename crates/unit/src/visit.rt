@@ -128,7 +128,7 @@ pub fn visit(rules: &[u64], at: State, visits: usize, found: Verdict) -> VisitOu
         return passing(found, next, chained, first);
     }
     let link = rules[widths::RULE * next + 2];
-    let behind = next + 1;
+    let past = next + 1;
     match found {
         // a missed rule breaks an open chain and passes the rest of its own
         Verdict::Missed => {
@@ -136,18 +136,18 @@ pub fn visit(rules: &[u64], at: State, visits: usize, found: Verdict) -> VisitOu
         }
         Verdict::Matched => {
             if link == 1 {
-                return passing(found, behind, true, first);
+                return passing(found, past, true, first);
             }
-            return closing(behind, first);
+            return closing(past, first);
         }
         Verdict::Removed => {
             if link == 1 {
                 return passing(found, rules::after_chain(rules, next), false, first);
             }
-            return passing(found, behind, chained, first); // the chain stays open
+            return passing(found, past, chained, first); // the chain stays open
         }
         Verdict::Error => {
-            return passing(found, behind, chained, first);
+            return passing(found, past, chained, first);
         }
     }
 }

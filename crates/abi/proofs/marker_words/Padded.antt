@@ -89,7 +89,7 @@ few-kept n = by (ltb 257 n) refl
     by true e = (omega (arith, ltb-true 257 n e), omega arith)
     by false e = (omega arith, omega (arith, ltb-false 257 n e))
 
--- behind the last turn
+-- after the last turn
 pub all-words : (ms : List Marker) → wordsOf (take (keptOf (length ms)) ms) ≡ wordsOf ms
 unfolding wordsOf
 all-words ms = by (ltb 257 (length ms)) refl

@@ -18,7 +18,7 @@ pub length-fitting : (found new : List ℕ) → length (fitting found new) ≡ l
 length-fitting found new =
     simp (length-append, length-drop) (omega (arith, length-take (length found) new))
 
--- one value more: written behind the others, or left out where they fill the list
+-- one value more: written after the others, or left out where they fill the list
 pub fitting-more : (found new : List ℕ) (v : ℕ) → set (fitting found new) (length new) v ≡ fitting found (new ++ v ∷ [])
 fitting-more found new v = go (ltb (length new) (length found)) refl
   where

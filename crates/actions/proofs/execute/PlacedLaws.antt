@@ -56,7 +56,7 @@ take-min (suc n) (x ∷ l) =
     let z : min (suc n) (suc (length l)) ≡ suc (min n (length l)) = omega arith in
     rw z (ap (λ (r : List Action). x ∷ r) (take-min n l))
 
--- a rule's actions are those up to the index behind its last
+-- a rule's actions are those up to the index after its last
 pub up-to-end : (actions : List Action) (r : Rule) (i : ℕ) → i ≡ r .first + min (r .count) (length actions - r .first)
     → upTo actions (r .first) i ≡ actionsOf actions r
 unfolding actionsOf

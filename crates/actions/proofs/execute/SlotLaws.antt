@@ -14,7 +14,7 @@ pub data SlotAt (kind : ℕ) : Type 0 where
   disruptive : 0 < kind → kind ≤ 6 → slotOf kind ≡ 1 → SlotAt kind
   flow : 6 < kind → kind ≤ 10 → slotOf kind ≡ 7 → SlotAt kind
   metadata : 10 < kind → kind ≤ 18 → slotOf kind ≡ kind → SlotAt kind
-  behind : 18 < kind → slotOf kind ≡ 0 → SlotAt kind
+  past : 18 < kind → slotOf kind ≡ 0 → SlotAt kind
 
 pub slot-at : (kind : ℕ) → SlotAt kind
 unfolding slotOf
@@ -23,7 +23,7 @@ slot-at kind = zeroth (eqb kind 0) refl
     last : (t : Bool) → leb kind 18 ≡ t → 10 < kind → SlotAt kind
     last true e h = metadata h (leb-true kind 18 e) (simp (ne-eqb kind 0 (λ z. omega arith), lt-leb kind 6 (omega arith), lt-leb kind 10 h, e))
     last false e h =
-        behind (leb-false kind 18 e) (simp (ne-eqb kind 0 (λ z. omega arith), lt-leb kind 6 (omega arith), lt-leb kind 10 h, e))
+        past (leb-false kind 18 e) (simp (ne-eqb kind 0 (λ z. omega arith), lt-leb kind 6 (omega arith), lt-leb kind 10 h, e))
 
     second : (t : Bool) → leb kind 10 ≡ t → 6 < kind → SlotAt kind
     second true e h = flow h (leb-true kind 10 e) (simp (ne-eqb kind 0 (λ z. omega arith), lt-leb kind 6 h, e))
@@ -48,7 +48,7 @@ slot-below kind s is = go (slot-at kind)
     go (disruptive h k e) = omega arith
     go (flow h k e) = omega arith
     go (metadata h k e) = omega arith
-    go (behind h e) = omega arith
+    go (past h e) = omega arith
 
 pub slot-disruptive : (kind : ℕ) → eqb (slotOf kind) 1 ≡ isDisruptive kind
 slot-disruptive kind = go (slot-at kind)
@@ -58,7 +58,7 @@ slot-disruptive kind = go (slot-at kind)
     go (disruptive h k e) = simp (e, le-leb 1 kind h, le-leb kind 6 k)
     go (flow h k e) = simp (e, le-leb 1 kind (omega arith), lt-leb kind 6 h)
     go (metadata h k e) = simp (e, ne-eqb kind 1 (λ z. omega arith), le-leb 1 kind (omega arith), lt-leb kind 6 (omega arith))
-    go (behind h e) = simp (e, le-leb 1 kind (omega arith), lt-leb kind 6 (omega arith))
+    go (past h e) = simp (e, le-leb 1 kind (omega arith), lt-leb kind 6 (omega arith))
 
 pub slot-flow : (kind : ℕ) → eqb (slotOf kind) 7 ≡ isFlow kind
 slot-flow kind = go (slot-at kind)
@@ -68,7 +68,7 @@ slot-flow kind = go (slot-at kind)
     go (disruptive h k e) = simp (e, lt-leb 7 kind (omega arith))
     go (flow h k e) = simp (e, le-leb 7 kind h, le-leb kind 10 k)
     go (metadata h k e) = simp (e, ne-eqb kind 7 (λ z. omega arith), le-leb 7 kind (omega arith), lt-leb kind 10 h)
-    go (behind h e) = simp (e, le-leb 7 kind (omega arith), lt-leb kind 10 (omega arith))
+    go (past h e) = simp (e, le-leb 7 kind (omega arith), lt-leb kind 10 (omega arith))
 
 -- two tests for equality agree where each follows from the other
 eqb-same : (a b c d : ℕ) → (a ≡ b → c ≡ d) → (c ≡ d → a ≡ b) → eqb a b ≡ eqb c d
@@ -87,11 +87,11 @@ slot-metadata s kind low high = eqb-same (slotOf kind) s s kind (there (slot-at 
     there (disruptive h k e) z = absurd (omega arith)
     there (flow h k e) z = absurd (omega arith)
     there (metadata h k e) z = omega arith
-    there (behind h e) z = absurd (omega arith)
+    there (past h e) z = absurd (omega arith)
 
     back : SlotAt kind → s ≡ kind → slotOf kind ≡ s
     back (other h e) z = absurd (omega arith)
     back (disruptive h k e) z = absurd (omega arith)
     back (flow h k e) z = absurd (omega arith)
     back (metadata h k e) z = omega arith
-    back (behind h e) z = absurd (omega arith)
+    back (past h e) z = absurd (omega arith)

@@ -96,7 +96,7 @@ sofar-turn words found first i last controls n s controls′ m low high slot put
     (more ∙ ap (λ (k : ℕ). cond (eqb k 19) 1 0) kind)
     so)
 
--- behind the rule's last action, with what is made of the marks
+-- after the rule's last action, with what is made of the marks
 pub sofar-end : (words found : List ℕ) (rule : Rule) (phase i : ℕ) (last controls : List ℕ) (r : RuleActions)
     → i ≡ rule .first + min (rule .count) (length words / 6 - rule .first)
     → r .disruptive ≡ disruptiveBy (marked (actionList words) (getD last 1 0))
@@ -106,9 +106,9 @@ pub sofar-end : (words found : List ℕ) (rule : Rule) (phase i : ℕ) (last con
     → Executed (actionsOf (actionList words) rule) phase found r controls
 sofar-end words found rule phase i last controls r end disruptive flow metadata so =
     let actions = actionList words in
-    let behind : i ≡ rule .first + min (rule .count) (length actions - rule .first) = omega (arith, length-actions words) in
+    let past : i ≡ rule .first + min (rule .count) (length actions - rule .first) = omega (arith, length-actions words) in
     let whole : Sofar actions found (actionsOf actions rule) last controls (r .controls)
-    = subst (λ (done : List Placed). Sofar actions found done last controls (r .controls)) (up-to-end actions rule i behind) so in
+    = subst (λ (done : List Placed). Sofar actions found done last controls (r .controls)) (up-to-end actions rule i past) so in
     let ps = actionsOf actions rule in
     let d : r .disruptive ≡ lastDisruptive ps = disruptive ∙ marks-disruptive actions ps last (whole .marks) in
     let f : r .flow ≡ lastFlow ps = flow ∙ marks-flow actions ps last (whole .marks) in

@@ -75,7 +75,7 @@ module _ (h : ControlCounts) (value starts ends : List ℕ) (ls : length starts 
         became = λ phases positions. ranges-many (structOf h starts ends phases positions) t is new e q .became;
       }
 
-  -- what `write_ranges` leaves in the parts behind those in use comes back as s and e; the lists then have their lengths
+  -- what `write_ranges` leaves in the parts after those in use comes back as s and e; the lists then have their lengths
   pub lent-added : (v s e starts′ ends′ : List ℕ) (n : ℕ) → t ≡ false → new ≡ rangesIn (idParts v) → length new ≡ n
       → h .ranges + n ≤ 256
       → Written v (take (length starts - h .ranges) (drop (h .ranges) starts))

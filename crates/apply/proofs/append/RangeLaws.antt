@@ -14,7 +14,7 @@ use Rattle.ctl.specs.WriteRanges.{Written}
 use Rattle.control.specs.declared.state.Controls.{Controls}
 use Rattle.control.specs.ControlsStruct.{controlsOf, Added}
 use Rattle.control.proofs.state.HeldLaws.{ranges-length, beyond, within, grown, none-added, all-added}
-use Rattle.apply.proofs.append.WrittenLaws.{handed, written-behind}
+use Rattle.apply.proofs.append.WrittenLaws.{handed, written-past}
 
 -- t is what `is_beyond` gave
 module _ (c : Controls) (t : Bool) (is : t ≡ (ltb 256 (c .ranges) || ltb 64 (c .targets))) where
@@ -38,7 +38,7 @@ module _ (c : Controls) (t : Bool) (is : t ≡ (ltb 256 (c .ranges) || ltb 64 (c
   ranges-many rs e h =
       none-added c rs (addRangesAnswer (controlsOf c) rs) 8 (ranges-answer rs ∙ rw (e, lt-ltb 256 (c .ranges + length rs) h)) refl
 
-  -- what `write_ranges` leaves in the parts behind those in use comes back as s and e
+  -- what `write_ranges` leaves in the parts after those in use comes back as s and e
   pub ranges-added : (v s e : List ℕ) (rs : List RuleIdRange) (n : ℕ) → length (c .starts) ≡ 256 → length (c .ends) ≡ 256 → t ≡ false
       → rs ≡ rangesIn (idParts v) → length rs ≡ n → c .ranges + n ≤ 256
       → Written v (take (256 - c .ranges) (drop (c .ranges) (c .starts))) (take (256 - c .ranges) (drop (c .ranges) (c .ends))) s e
@@ -48,7 +48,7 @@ module _ (c : Controls) (t : Bool) (is : t ≡ (ltb 256 (c .ranges) || ltb 64 (c
       (withAllRanges (controlsOf c) rs)
   ranges-added v s e rs n ls le f are counted h w =
       let fits : c .ranges + length rs ≤ 256 = omega arith in
-      let both = written-behind v (c .starts) (c .ends) (c .ranges) 256 ls le rs are fits s e w in
+      let both = written-past v (c .starts) (c .ends) (c .ranges) 256 ls le rs are fits s e w in
       all-added c rs (addRangesAnswer (controlsOf c) rs)
       (ranges-answer rs ∙ rw (f, le-ltb 256 (c .ranges + length rs) fits))
       (omega arith) (omega arith) _ _ _ (both .0) (both .1) (omega arith)

@@ -1,4 +1,4 @@
--- What `write_ranges` leaves in the part of an array behind those in use, for the whole array; and a value's ranges by what
+-- What `write_ranges` leaves in the part of an array after those in use, for the whole array; and a value's ranges by what
 -- `count_ranges` gives. Assumes nothing.
 use Prim.Native.Nat.{ℕ, _+_, _-_, _≤_, min}
 use mathlib.Core.Path.{_≡_, refl, sym, ap, _∙_}
@@ -16,7 +16,7 @@ use Rattle.ctl.specs.declared.range_count.RangeCount.{RangeCount}
 use Rattle.ctl.specs.CountRanges.{countIn}
 use Rattle.ctl.specs.WriteRanges.{allFitting, Written}
 
--- an array of that size whose part behind n was lent and came back as ys
+-- an array of that size whose part after n was lent and came back as ys
 abbrev pub handed : List ℕ → ℕ → ℕ → List ℕ → List ℕ
 handed l n size ys = take n l ++ (ys ++ drop (size - n) (drop n l))
 
@@ -51,7 +51,7 @@ module _ (v value : List ℕ) (is : v ≡ value) where
       go true d = absurd (let z : _≡_ {A = ℕ} 0 1 = cc in omega arith)
       go false d = (refl, cc)
 
--- two arrays whose parts behind n `write_ranges` was lent, with room for all ranges
+-- two arrays whose parts after n `write_ranges` was lent, with room for all ranges
 module _ (v starts ends : List ℕ) (n size : ℕ) (ls : length starts ≡ size) (le : length ends ≡ size)
     (new : List RuleIdRange) (is : new ≡ rangesIn (idParts v)) (h : n + length new ≤ size) (s e : List ℕ) where
   fit : allFitting v (take (size - n) (drop n starts)) (take (size - n) (drop n ends)) ≡ new
@@ -60,9 +60,9 @@ module _ (v starts ends : List ℕ) (n size : ℕ) (ls : length starts ≡ size)
       rw (lent-length starts n size ls, lent-length ends n size le, ← is)
       (take-all (min (size - n) (size - n)) new (omega arith))
 
-  pub written-behind : Written v (take (size - n) (drop n starts)) (take (size - n) (drop n ends)) s e
+  pub written-past : Written v (take (size - n) (drop n starts)) (take (size - n) (drop n ends)) s e
       → (handed starts n size s ≡ sets starts n (map startOf new)) × (handed ends n size e ≡ sets ends n (map endOf new))
-  written-behind w =
+  written-past w =
       (one startOf starts s ls (w .starts-are), one endOf ends e le (w .ends-are))
     where
       one : (read : RuleIdRange → ℕ) (l ys : List ℕ) → length l ≡ size

@@ -24,7 +24,7 @@ take-min (suc n) (x ∷ l) =
 abbrev pub slice : ℕ → ℕ → List ℕ → List ℕ
 slice i end codes = take (end - i) (drop i codes)
 
--- a rule's codes are those up to the index behind its last
+-- a rule's codes are those up to the index after its last
 pub codes-are : (codes : List ℕ) (r : Rule) (end : ℕ) → end ≡ r .first + min (r .count) (length codes - r .first)
     → slice (r .first) end codes ≡ take (r .count) (drop (r .first) codes)
 codes-are codes r end e =
@@ -32,7 +32,7 @@ codes-are codes r end e =
     let z : end - r .first ≡ min (r .count) (length l) = omega (arith, length-drop (r .first) codes) in
     ap (λ (n : ℕ). take n l) z ∙ take-min (r .count) l
 
--- the code at i, and those behind it
+-- the code at i, and those after it
 pub codes-from : (codes : List ℕ) (i end : ℕ) → i < end → end ≤ length codes → slice i end codes ≡ getD codes i 0 ∷ slice (i + 1) end
     codes
 codes-from codes i end h k =

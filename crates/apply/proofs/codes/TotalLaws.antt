@@ -71,7 +71,7 @@ module _ {A : Type 0} (w : A → ℕ) where
   pub total-part-le : (first count : ℕ) (l : List A) → total w (take count (drop first l)) ≤ total w l
   total-part-le first count l = omega (arith, total-take-le count (drop first l), total-drop-le first l)
 
-  -- a part of a list weighs the difference between the fronts that end behind it and before it; both ends are clipped
+  -- a part of a list weighs the difference between the fronts that end after it and before it; both ends are clipped
   pub total-between : (l : List A) (first count : ℕ)
       → total w (take (min first (length l) + min count (length l - min first (length l))) l) ≡ total w
       (take (min first (length l)) l) + total w (take count (drop first l))

@@ -18,7 +18,7 @@ use Rattle.reading.specs.declared.RuleEngineMode.{RuleEngineMode}
 use Rattle.reading.specs.declared.BodyAccess.{BodyAccess}
 use Rattle.reading.specs.declared.BodyProcessor.{BodyProcessor}
 use Rattle.reading.specs.Lists.{any, keep, over}
-use Rattle.reading.specs.Text.{ascii, same, partOf, trim, fold, holdsByte, cutBefore, cutBehind}
+use Rattle.reading.specs.Text.{ascii, same, partOf, trim, fold, holdsByte, cutBefore, cutAfter}
 use Rattle.reading.specs.Directive.{
   Directive,
   ruleEngine,
@@ -175,7 +175,7 @@ target-no value =
     id = trim (cutBefore 59 value)
 
     target : List ℕ
-    target = trim (cutBehind 59 value)
+    target = trim (cutAfter 59 value)
 
     go : (a b : Bool) → removing (cond a (cond b unsupported (ruleRemoveTargetById id target)) unsupported) ≡ 0
     go true true = refl
@@ -281,7 +281,7 @@ drop-padded f l zero k = let z : k - (zero - length l) ≡ k = omega arith in rw
 drop-padded f [] (suc i) k = let z : suc i - zero ≡ suc i = omega arith in rw z (drop-zeros (suc i) k)
 drop-padded f (x ∷ l) (suc i) k = let z : suc i - suc (length l) ≡ i - length l = omega arith in rw z (drop-padded f l i k)
 
--- what stands from i on: the element there, and those behind it
+-- what stands from i on: the element there, and those after it
 head-is : (l : List Action) (i : ℕ) (a : Action) (r : List Action) → drop i l ≡ a ∷ r → getD l i noAction ≡ a
 head-is l i a r e =
     let z : i + 0 ≡ i = omega arith in
@@ -330,7 +330,7 @@ module _ (q : Call) where
       go true h k = directive-fits (place i) name value (directiveOf name value) c refl h k
       go false h k = zero-idle (place i) value c
 
-  -- the ctl actions from one on: the first, and those behind it
+  -- the ctl actions from one on: the first, and those after it
   after-first : (i : ℕ) (a : Action) (rest : List Placed) (c : Controls)
       → actionControls q (keep (eqb (a .kind) 19) (placed i a ∷ []) ++ rest) c ≡ actionControls q rest (afterAction i a c)
   after-first i a rest c = go (eqb (a .kind) 19)

@@ -73,7 +73,7 @@ module _ (source : Source) (codes : List ℕ) (c r : Controls) (i end : ℕ) (wh
         rest = next (controlsOf r′) (sym (b .meaning));
       }
 
--- behind the rule's last code
+-- after the rule's last code
 pub going-end : (source : Source) (codes : List ℕ) (rule : Rule) (c r : Controls) (i end : ℕ)
     → end ≤ i → end ≡ rule .first + min (rule .count) (length codes - rule .first)
     → Going source codes c r i end (appliedCodes source (rule .first) (slice (rule .first) end codes) (controlsOf c))

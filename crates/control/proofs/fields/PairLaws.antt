@@ -27,12 +27,12 @@ module _ {A : Type 0} (make : ℕ → ℕ → A) (xs ys : List ℕ) where
   length-pairs zero = refl
   length-pairs (suc n) = omega (arith, length-append (pairList make n xs ys) (make (getD xs n 0) (getD ys n 0) ∷ []), length-pairs n)
 
-  -- a place behind those counted is not looked at
-  pub pairs-behind : (n k x y : ℕ) → n ≤ k → pairList make n (set xs k x) (set ys k y) ≡ pairList make n xs ys
-  pairs-behind zero k x y h = refl
-  pairs-behind (suc n) k x y h =
+  -- a place after those counted is not looked at
+  pub pairs-past : (n k x y : ℕ) → n ≤ k → pairList make n (set xs k x) (set ys k y) ≡ pairList make n xs ys
+  pairs-past zero k x y h = refl
+  pairs-past (suc n) k x y h =
       rw (
-        pairs-behind n k x y (omega arith),
+        pairs-past n k x y (omega arith),
         getD-set-other xs k n x 0 (λ e. omega arith),
         getD-set-other ys k n y 0 (λ e. omega arith),
       )
@@ -52,15 +52,15 @@ module _ {A : Type 0} (make : ℕ → ℕ → A) (xs ys : List ℕ) where
           let p : test (make (getD xs n 0) (getD ys n 0)) ≡ true = rw q at e in
           rw p (or-true (any test (pairList make n xs ys)))
 
-  -- an entry that does not, behind others that do not
+  -- an entry that does not, after others that do not
   pub any-failed : (test : A → Bool) (n : ℕ) → any test (pairList make n xs ys) ≡ false → test (make (getD xs n 0) (getD ys n 0)) ≡ false
       → any test (pairList make (suc n) xs ys) ≡ false
   any-failed test n e d = rw (any-append test (pairList make n xs ys) (make (getD xs n 0) (getD ys n 0) ∷ []), e, d)
 
-place-behind : (l : List Place) (k : ℕ) → length l ≤ k → placeAt l k ≡ OptionPlace.None
-place-behind [] k h = refl
-place-behind (p ∷ ps) zero h = absurd (omega arith)
-place-behind (p ∷ ps) (suc k) h = place-behind ps k (omega arith)
+place-past : (l : List Place) (k : ℕ) → length l ≤ k → placeAt l k ≡ OptionPlace.None
+place-past [] k h = refl
+place-past (p ∷ ps) zero h = absurd (omega arith)
+place-past (p ∷ ps) (suc k) h = place-past ps k (omega arith)
 
 place-before : (l m : List Place) (k : ℕ) → k < length l → placeAt (l ++ m) k ≡ placeAt l k
 place-before [] m k h = absurd (omega arith)
@@ -81,7 +81,7 @@ module _ (phases positions : List ℕ) where
   targets-length = length-pairs placeOf phases positions
 
   pub no-target : (n k : ℕ) → n ≤ k → placeAt (targetList n phases positions) k ≡ OptionPlace.None
-  no-target n k h = place-behind (targetList n phases positions) k (omega (arith, targets-length n))
+  no-target n k h = place-past (targetList n phases positions) k (omega (arith, targets-length n))
 
   pub target-at : (n k : ℕ) → k < n → placeAt (targetList n phases positions) k ≡ OptionPlace.Some (target k)
   target-at zero k h = absurd (omega arith)

@@ -32,7 +32,7 @@ pub removed-more : (starts ends : List ℕ) (k i : ℕ) (found : Bool) → any (
     → found ≡ inRange k (rangeOf (getD starts i 0) (getD ends i 0)) → found ≡ false → any (inRange k) (rangeList (i + 1) starts ends) ≡ false
 removed-more starts ends k i found e f d = rw add-one (any-failed rangeOf starts ends (inRange k) i e (sym f ∙ d))
 
--- the same, where the index behind the range is written in another way
+-- the same, where the index after the range is written in another way
 pub removed-next : (starts ends : List ℕ) (k i j : ℕ) (found : Bool) → j ≡ i + 1 → any (inRange k) (rangeList i starts ends) ≡ false
     → found ≡ inRange k (rangeOf (getD starts i 0) (getD ends i 0)) → found ≡ false → any (inRange k) (rangeList j starts ends) ≡ false
 removed-next starts ends k i j found is e f d = rw is (removed-more starts ends k i found e f d)

@@ -1,4 +1,4 @@
--- Laws of entries written behind those that two arrays hold, one after the other. Assumes nothing.
+-- Laws of entries written after those that two arrays hold, one after the other. Assumes nothing.
 use Prim.Native.Nat.{ℕ, suc, _+_, _≤_}
 use mathlib.Core.Path.{_≡_, refl, sym, ap, _∙_}
 use mathlib.Core.List.{List, [], _∷_, _++_, map, append-assoc, append-nil}
@@ -6,9 +6,9 @@ use native.Mathlib.Omega.{arith}
 use lib.ListN.{length, drop, set, length-set}
 use lib.Seq.{sets, drop-set-lt, getD-set-same}
 use Rattle.reading.specs.Controls.{pairList}
-use Rattle.control.proofs.fields.PairLaws.{pairs-behind}
+use Rattle.control.proofs.fields.PairLaws.{pairs-past}
 
--- the places behind those written are as found
+-- the places after those written are as found
 pub drop-sets : (vs l : List ℕ) (n m : ℕ) → n + length vs ≤ m → drop m (sets l n vs) ≡ drop m l
 drop-sets [] l n m h = refl
 drop-sets (v ∷ vs) l n m h = drop-sets vs (set l n v) (suc n) m (omega arith) ∙ drop-set-lt m l n v (omega arith)
@@ -31,7 +31,7 @@ module _ {A : Type 0} (make : ℕ → ℕ → A) (first second : A → ℕ) (mad
       one : pairList make (suc n) (set xs n (first a)) (set ys n (second a)) ≡ pairList make n xs ys ++ (a ∷ [])
       one =
           rw (
-            pairs-behind make xs ys n n (first a) (second a) (omega arith),
+            pairs-past make xs ys n n (first a) (second a) (omega arith),
             getD-set-same xs n (first a) 0 (omega arith),
             getD-set-same ys n (second a) 0 (omega arith),
             made a,

@@ -65,7 +65,7 @@ module _ (g : RuleIdRange → ℕ) (room : ℕ) (s old : List ℕ) where
       (pe : part ≡ idPart (take e (take (length s - at) (drop at s))))
       (cur cur′ : List ℕ) (k k′ : ℕ) (f : Done g room s old cur k at)
       (put : cur′ ≡ sets cur k (map g (fit room k part))) (next : k′ ≡ k + length (fit room k part)) where
-    -- what is put, and what is left for the parts ps behind it
+    -- what is put, and what is left for the parts ps after it
     todo : (ps : List (List ℕ)) → idParts (drop at s) ≡ take e (drop at s) ∷ ps
         → map g (take (room - k) (rangesIn (idParts (drop at s)))) ≡ map g (fit room k part) ++ map g
         (take (room - k′) (rangesIn ps))

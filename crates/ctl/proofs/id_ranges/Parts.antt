@@ -14,7 +14,7 @@ use Rattle.reading.specs.Lists.{keep}
 use Rattle.reading.specs.Text.{trim, numberOf, indexOf, onFirst, splitOn, oneId, idsTo, idsFrom, trimmedPart, idPart, idParts}
 use Rattle.lists.proofs.Slices.{rest-eq}
 
--- the parts behind the first
+-- the parts after the first
 abbrev pub later : ℕ → List ℕ → List (List ℕ)
 later b s = keep (ltb (indexOf b s) (length s)) (splitOn b (drop (suc (indexOf b s)) s))
 

@@ -14,7 +14,7 @@ use Rattle.ctl.specs.declared.range_count.PartState.{PartState}
 use Rattle.ctl.specs.declared.range_count.Step.{Step}
 use Rattle.ctl.specs.declared.range_count.PartEnd.{PartEnd}
 use Rattle.ctl.specs.Scan.{isAfterDigits, partStart, digitStep, blankStep, dashStep, plusStep, otherStep, pairEnd, partEnd}
-use Rattle.ctl.proofs.range_count.Numbers.{runFrom, someFrom, noneFrom, numFrom, trim-other, trim-blank, before-other, digit-not-blank, num-digit, num-blank-start, num-blank-behind, num-blank-plus, num-blank-digits, num-plus, num-other-plus, num-other-digits, num-other-behind, num-other}
+use Rattle.ctl.proofs.range_count.Numbers.{runFrom, someFrom, noneFrom, numFrom, trim-other, trim-blank, before-other, digit-not-blank, num-digit, num-blank-start, num-blank-past, num-blank-plus, num-blank-digits, num-plus, num-other-plus, num-other-digits, num-other-past, num-other}
 use Rattle.ctl.proofs.range_count.Dashes.{dashed, not-dash, isNone, part-whole}
 
 -- only at its start may a part be blank
@@ -95,11 +95,11 @@ module _ (b : ℕ) (s : List ℕ) (second : Bool) (first : ℕ) where
       none : noneSeen stage (b ∷ s) ≡ false
       none = none-other b s stage (digit-not-blank b a z)
 
-      go : (behind fits : Bool)
+      go : (past fits : Bool)
           → ((l : List ℕ) → numFrom stage v (b ∷ l)
-          ≡ cond behind Number.Bad (cond fits (numFrom Stage.Digits (v * 10 + (b - 48)) l) Number.Bad))
+          ≡ cond past Number.Bad (cond fits (numFrom Stage.Digits (v * 10 + (b - 48)) l) Number.Bad))
           → sayFrom second first stage v (b ∷ s)
-          ≡ saysNext (cond behind Step.Bad
+          ≡ saysNext (cond past Step.Bad
           (cond fits (Step.Next (seenAs second first Stage.Digits (v * 10 + (b - 48)))) Step.Bad)) s
       go true fits h = goes-bad b s first stage v second dash none h
       go false true h = goes-on b s first stage v second Stage.Digits (v * 10 + (b - 48)) dash none h
@@ -117,7 +117,7 @@ module _ (b : ℕ) (s : List ℕ) (second : Bool) (first : ℕ) where
   on-blank Stage.Digits v d e =
       goes-on b s first Stage.Digits v second Stage.AfterDigits v (not-dash b e) refl (λ l. num-blank-digits b l v e d)
   on-blank Stage.AfterDigits v d e =
-      goes-on b s first Stage.AfterDigits v second Stage.AfterDigits v (not-dash b e) refl (λ l. num-blank-behind b l v e)
+      goes-on b s first Stage.AfterDigits v second Stage.AfterDigits v (not-dash b e) refl (λ l. num-blank-past b l v e)
 
   module _ (d : isDigit b ≡ false) (e : isBlank b ≡ false) (k : eqb b 45 ≡ false) where
     bad : (stage : Stage) (v : ℕ) → ((l : List ℕ) → numFrom stage v (b ∷ l) ≡ Number.Bad)
@@ -132,7 +132,7 @@ module _ (b : ℕ) (s : List ℕ) (second : Bool) (first : ℕ) where
         goes-on b s first Stage.Start v second Stage.Plus v k (none-other b s Stage.Start e) (λ l. num-plus b l v e p)
     on-plus Stage.Plus v p = bad Stage.Plus v (λ l. num-other-plus b l v e d)
     on-plus Stage.Digits v p = bad Stage.Digits v (λ l. num-other-digits b l v e d)
-    on-plus Stage.AfterDigits v p = bad Stage.AfterDigits v (λ l. num-other-behind b l v e d)
+    on-plus Stage.AfterDigits v p = bad Stage.AfterDigits v (λ l. num-other-past b l v e d)
 
     on-other : (stage : Stage) (v : ℕ) → eqb b 43 ≡ false → sayFrom second first stage v (b ∷ s) ≡ IdPart.Bad
     on-other stage v p = bad stage v (λ l. num-other b l v e d p stage)

@@ -9,7 +9,7 @@ use lib.Dec.{ltb, eqb, leb·suc-suc, eqb·suc-zero}
 use lib.ListN.{length, take, drop}
 use Rattle.reading.specs.declared.Number.{Number}
 use Rattle.reading.specs.declared.IdPart.{IdPart}
-use Rattle.reading.specs.Text.{isBlank, trimStart, before, trimEnd, trim, numberOf, indexOf, holdsByte, cutBefore, cutBehind, oneId, idsFrom, idPart}
+use Rattle.reading.specs.Text.{isBlank, trimStart, before, trimEnd, trim, numberOf, indexOf, holdsByte, cutBefore, cutAfter, oneId, idsFrom, idPart}
 use Rattle.ctl.specs.declared.range_count.Stage.{Stage}
 use Rattle.ctl.proofs.range_count.Numbers.{numFrom, num-start, before-other, trim-other, trim-blank, num-blank-start}
 
@@ -24,13 +24,13 @@ dashed f x (b ∷ s) = cond (eqb b 45) (idsFrom (f []) (whole s)) (dashed (λ l.
 
 -- a part is cut at the first "-"
 cut : (f : List ℕ → Number) (x : IdPart) (s : List ℕ)
-    → cond (holdsByte 45 s) (idsFrom (f (cutBefore 45 s)) (numberOf (trim (cutBehind 45 s)))) x ≡ dashed f x s
+    → cond (holdsByte 45 s) (idsFrom (f (cutBefore 45 s)) (numberOf (trim (cutAfter 45 s)))) x ≡ dashed f x s
 unfolding dashed indexOf
 cut f x [] = refl
 cut f x (b ∷ s) = go (eqb b 45) (cut (λ l. f (b ∷ l)) x s)
   where
     go : (t : Bool)
-        → cond (holdsByte 45 s) (idsFrom (f (b ∷ cutBefore 45 s)) (numberOf (trim (cutBehind 45 s)))) x
+        → cond (holdsByte 45 s) (idsFrom (f (b ∷ cutBefore 45 s)) (numberOf (trim (cutAfter 45 s)))) x
         ≡ dashed (λ l. f (b ∷ l)) x s
         → (let k = cond t 0 (suc (indexOf 45 s)) in
         cond (ltb k (suc (length s))) (idsFrom (f (take k (b ∷ s))) (numberOf (trim (drop k s)))) x)
@@ -130,7 +130,7 @@ part-whole s =
     let w : (λ (l : List ℕ). numberOf (trim l)) ≡ whole = λ i l. sym (num-start l) i in
     let c : dashed whole (oneId (whole s)) t ≡ dashed whole (oneId (whole s)) s
     = dash-trim (oneId (whole s)) s in
-    ap (λ (u : Bool). cond u IdPart.Blank (cond (holdsByte 45 t) (idsFrom (numberOf (trim (cutBefore 45 t))) (numberOf (trim (cutBehind 45 t)))) (oneId (numberOf t)))) (none-length t)
+    ap (λ (u : Bool). cond u IdPart.Blank (cond (holdsByte 45 t) (idsFrom (numberOf (trim (cutBefore 45 t))) (numberOf (trim (cutAfter 45 t)))) (oneId (numberOf t)))) (none-length t)
     ∙ (ap (λ (p : IdPart). cond (isNone t) IdPart.Blank p) (cut (λ l. numberOf (trim l)) (oneId (numberOf t)) t)
     ∙ (ap (λ (g : List ℕ → Number). cond (isNone t) IdPart.Blank (dashed g (oneId (g s)) t)) w
     ∙ ap (λ (p : IdPart). cond (isNone t) IdPart.Blank p) c))

@@ -101,9 +101,9 @@ module _ (b : ℕ) (s : List ℕ) (v : ℕ) where
     unfolding numFrom
     num-blank-start = ap (λ (l : List ℕ). someFrom v (withoutPlus l)) (trim-blank b s e)
 
-    pub num-blank-behind : numFrom Stage.AfterDigits v (b ∷ s) ≡ numFrom Stage.AfterDigits v s
+    pub num-blank-past : numFrom Stage.AfterDigits v (b ∷ s) ≡ numFrom Stage.AfterDigits v s
     unfolding numFrom noneFrom trimEnd before
-    num-blank-behind = go (trimEnd s)
+    num-blank-past = go (trimEnd s)
       where
         go : (t : List ℕ) → noneFrom v (before b t) ≡ noneFrom v t
         go [] = rw e
@@ -142,13 +142,13 @@ module _ (b : ℕ) (s : List ℕ) (v : ℕ) where
       unfolding numFrom runFrom trimEnd
       num-other-digits = ap (runFrom v) (before-other b (trimEnd s) e) ∙ rw d
 
-      pub num-other-behind : numFrom Stage.AfterDigits v (b ∷ s) ≡ Number.Bad
+      pub num-other-past : numFrom Stage.AfterDigits v (b ∷ s) ≡ Number.Bad
       unfolding numFrom noneFrom trimEnd
-      num-other-behind = ap (noneFrom v) (before-other b (trimEnd s) e)
+      num-other-past = ap (noneFrom v) (before-other b (trimEnd s) e)
 
       pub num-other : eqb b 43 ≡ false → (stage : Stage) → numFrom stage v (b ∷ s) ≡ Number.Bad
       unfolding numFrom someFrom runFrom withoutPlus
       num-other p Stage.Start = ap (λ (l : List ℕ). someFrom v (withoutPlus l)) (trim-other b s e) ∙ rw (p, d)
       num-other p Stage.Plus = num-other-plus
       num-other p Stage.Digits = num-other-digits
-      num-other p Stage.AfterDigits = num-other-behind
+      num-other p Stage.AfterDigits = num-other-past

@@ -12,7 +12,7 @@ use lib.Seq.{take-all}
 use Rattle.reading.specs.declared.RuleIdRange.{RuleIdRange}
 use Rattle.reading.specs.declared.CtlDirective.{CtlDirective}
 use Rattle.reading.specs.Lists.{any, over}
-use Rattle.reading.specs.Text.{same, ascii, trim, fold, holdsByte, cutBefore, cutBehind, idParts, anyBad, rangesIn}
+use Rattle.reading.specs.Text.{same, ascii, trim, fold, holdsByte, cutBefore, cutAfter, idParts, anyBad, rangesIn}
 use Rattle.reading.specs.Directive.{Directive, ruleEngine, ruleRemoveById, ruleRemoveTargetById, requestBodyAccess}
 use Rattle.reading.specs.Directive.{requestBodyProcessor, unsupported, engineValue, accessValue, processorValue, removalValue}
 use Rattle.reading.specs.Directive.{targetValue, directiveNamed, directiveOf, rangesOf, isHigh, readerAnswer, withoutLists, startOf}
@@ -55,7 +55,7 @@ module _ (v : List ℕ) where
   target-known : Known v (targetValue v)
   target-known =
       either (holdsByte 59 v) _ _
-      (either (eqb (length (trim (cutBefore 59 v))) 0 || eqb (length (trim (cutBehind 59 v))) 0) _ _ (inl refl) (inl refl))
+      (either (eqb (length (trim (cutBefore 59 v))) 0 || eqb (length (trim (cutAfter 59 v))) 0) _ _ (inl refl) (inl refl))
       (inl refl)
 
   removal-known : Known v (removalValue v)

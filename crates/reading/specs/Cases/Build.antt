@@ -3,7 +3,7 @@ use Prim.Native.Nat.{ℕ, _+_}
 use Prim.Native.String.{String}
 use mathlib.Core.Bool.{Bool, true, false, not, _&&_, _||_}
 use mathlib.Core.List.{List, [], _∷_, _++_, map}
-use lib.ListN.{length, take, drop as behind, replicate}
+use lib.ListN.{length, take, drop as past, replicate}
 use lib.Dec.{eqb}
 use Rattle.reading.specs.declared.RuleEngineMode.{RuleEngineMode}
 use Rattle.reading.specs.declared.ModeSetting.{ModeSetting}
@@ -172,7 +172,7 @@ inError w = withOutcome 3 w
 abbrev pub marker : String → ℕ → Named
 marker name position = record { name = name; position = position }
 
--- THE RECORDS: each text stands behind those before it
+-- THE RECORDS: each text stands after those before it
 
 abbrev pub partAt : ℕ → List ℕ → Part
 partAt start text = record { start = start; len = length text }
@@ -444,11 +444,11 @@ holdsAfter r o =
     && eqb (o .transaction .ids) (r .given .transaction .ids + length (r .found .ids))
     && eqb (length (o .ids)) (length (r .given .ids))
     && sameIds (take 1 (o .ids)) []
-    && sameIds (behind 1 (o .ids)) (r .found .ids)
+    && sameIds (past 1 (o .ids)) (r .found .ids)
     && eqb (o .transaction .data-entries) (r .given .transaction .data-entries + length (r .found .data-entries))
     && eqb (length (o .data-entries)) (length (r .given .data-entries))
     && sameData (take 1 (o .data-entries)) []
-    && sameData (behind 1 (o .data-entries)) (r .found .data-entries)
+    && sameData (past 1 (o .data-entries)) (r .found .data-entries)
     && eqBool (o .transaction .allowed) (r .found .allowed)
     && sameStop (o .transaction .intervention) (r .found .stop)
     && eqb (modeSettingNumber (o .transaction .controls .mode)) (modeSettingNumber (r .mode))

@@ -324,7 +324,7 @@ points =
     ∷ refused "D14e" (withIds (9 ∷ []) (call (rule 10 [] ∷ []) [])) 7
     -- 4 comes before 5
     ∷ refused "D16" (withOutcomes (9 ∷ 9 ∷ []) (call (rule 10 [] ∷ []) [])) 4
-    -- 5: a part that ends behind its text; (end, 0) is inside
+    -- 5: a part that ends after its text; (end, 0) is inside
     ∷ refused "D17a" (withAction (action 0 0 1 0 0 0) (call [] [])) 5
     ∷ row "D17b" (withAction (action 0 0 0 0 0 0) (call [] [])) nothing
     ∷ refused "D17c" (withRules (sharing 1 0 ∷ []) (call [] [])) 5
@@ -382,7 +382,7 @@ points =
     ∷ row "D77d" (callManual (rule 10 (block ∷ status 406 ∷ []) ∷ []) []) (record { visits = matched 0 ∷ []; ids = 10 ∷ []; data-entries = entry 10 0 ∷ []; allowed = false; stop = stopped 500 (10 ∷ []) })
     -- a removed closing rule breaks the chain
     ∷ removal "D78" (callManual (rule 40 (ctl "ruleRemoveById" "42" ∷ []) ∷ link 41 (deny ∷ []) ∷ rule 42 [] ∷ rule 43 [] ∷ []) []) (record { visits = matched 0 ∷ matched 1 ∷ removed 2 ∷ matched 3 ∷ []; ids = 40 ∷ 43 ∷ []; data-entries = entry 40 0 ∷ entry 43 3 ∷ []; allowed = false; stop = none }) 1 (42 ∷ []) [] []
-    -- a marker directly behind is jumped to
+    -- a marker directly after is jumped to
     ∷ row "D79a" (callManual (rule 30 (skipAfter "A" ∷ []) ∷ rule 31 (deny ∷ []) ∷ []) (marker "A" 1 ∷ [])) (record { visits = matched 0 ∷ matched 1 ∷ []; ids = 30 ∷ 31 ∷ []; data-entries = entry 30 0 ∷ entry 31 1 ∷ []; allowed = false; stop = stopped 403 (31 ∷ []) })
     -- a smaller position is not
     ∷ row "D79b" (callManual (rule 30 (skipAfter "A" ∷ []) ∷ rule 31 [] ∷ []) (marker "A" 0 ∷ [])) (record { visits = matched 0 ∷ []; ids = 30 ∷ []; data-entries = entry 30 0 ∷ []; allowed = false; stop = none })

@@ -1,4 +1,4 @@
--- Whether a part ends behind its list. Assumes nothing.
+-- Whether a part ends after its list. Assumes nothing.
 use Prim.Native.Nat.{ℕ, _+_, _-_, _≤_, _<_}
 use mathlib.Core.Path.{_≡_, refl, sym}
 use mathlib.Core.Bool.{Bool, true, false}
@@ -7,10 +7,10 @@ use borrow.Author.Tests.{lt-ltb, le-ltb, ltb-true, ltb-false}
 use lib.Dec.{ltb}
 use Rattle.reading.specs.Refusals.{outside}
 
--- a part that starts behind the end, and one that starts inside: what is left there is compared with its length
+-- a part that starts after the end, and one that starts inside: what is left there is compared with its length
 module _ (entries start len : ℕ) where
-  pub starts-behind : entries < start → true ≡ outside entries start len
-  starts-behind h = sym (lt-ltb entries (start + len) (omega arith))
+  pub starts-past : entries < start → true ≡ outside entries start len
+  starts-past h = sym (lt-ltb entries (start + len) (omega arith))
 
   pub starts-inside : start ≤ entries → ltb (entries - start) len ≡ outside entries start len
   starts-inside h = go (ltb (entries - start) len) refl

@@ -22,8 +22,8 @@ module _ (n end : ℕ) (r : Rule) (rs : List Rule) where
   follow-before : beginOf n r < end → following n end (r ∷ rs) ≡ false
   follow-before h = ap (λ (t : Bool). cond t false (following n (endOf n r) rs)) (lt-ltb (beginOf n r) end h)
 
-  follow-behind : end ≤ beginOf n r → following n end (r ∷ rs) ≡ following n (endOf n r) rs
-  follow-behind h = ap (λ (t : Bool). cond t false (following n (endOf n r) rs)) (le-ltb (beginOf n r) end h)
+  follow-past : end ≤ beginOf n r → following n end (r ∷ rs) ≡ following n (endOf n r) rs
+  follow-past h = ap (λ (t : Bool). cond t false (following n (endOf n r) rs)) (le-ltb (beginOf n r) end h)
 
 -- a search for a rule that does not follow: those before index i do, and the last of them ends at `end`
 pub record Follows (n : ℕ) (rules : List ℕ) (end i : ℕ) : Type 0 where
@@ -51,7 +51,7 @@ module _ (n : ℕ) (rules : List ℕ) where
             within = omega arith;
             inside = omega (arith, is, e);
             same = here
-                ∙ follow-behind n end (ruleFrom rules i) (drop (suc i) (ruleList rules)) (omega (arith, is))
+                ∙ follow-past n end (ruleFrom rules i) (drop (suc i) (ruleList rules)) (omega (arith, is))
                 ∙ ap (λ (k : ℕ). following n k (drop (suc i) (ruleList rules))) at
                 ∙ ap (λ (k : ℕ). following n (first + size) (drop k (ruleList rules))) (sym (add-one i));
           }
@@ -59,7 +59,7 @@ module _ (n : ℕ) (rules : List ℕ) where
     pub follows-end : length rules / 5 ≤ i → true ≡ following n 0 (ruleList rules)
     follows-end h = sym (so .same ∙ ap (following n end) (rules-end rules i h))
 
--- behind an end, rules that follow weigh no more than what stands there
+-- after an end, rules that follow weigh no more than what stands there
 module _ (w : ℕ → ℕ) (codes : List ℕ) where
   follow-weight : (end : ℕ) (rs : List Rule) → following (length codes) end rs ≡ true
       → total w (take end codes) + total (ruleWeight w codes) rs ≤ total w codes

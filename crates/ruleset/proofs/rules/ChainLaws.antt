@@ -11,7 +11,7 @@ use Rattle.reading.specs.Walk.{chainRest}
 use Rattle.lists.proofs.RecordLaws.{drop-rules, rules-end}
 
 module _ (words : List ℕ) (i : ℕ) where
-  -- a link: the chain goes on behind it
+  -- a link: the chain goes on after it
   pub chain-on : i < length words / 5 → getD words (5 * i + 2) 0 ≡ 1
       → i + chainRest (drop i (ruleList words)) ≡ (i + 1) + chainRest (drop (i + 1) (ruleList words))
   chain-on h e = rw (drop-rules words i h, eq-eqb (getD words (5 * i + 2) 0) 1 e, add-one i) (omega arith)

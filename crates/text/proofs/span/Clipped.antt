@@ -1,4 +1,4 @@
--- A part of a text where it reaches behind the end. Assumes nothing.
+-- A part of a text where it reaches after the end. Assumes nothing.
 use Prim.Native.Nat.{ℕ, _≤_}
 use mathlib.Core.Path.{_≡_}
 use mathlib.Core.List.{List, []}
@@ -7,7 +7,7 @@ use lib.Seq.{take-all, take-nil}
 use Rattle.reading.specs.declared.Part.{Part}
 use Rattle.reading.specs.Text.{partOf}
 
--- what `part_of` answers: nothing behind the text, the text's rest, or so many bytes of it
+-- what `part_of` answers: nothing after the text, the text's rest, or so many bytes of it
 module _ (text : List ℕ) (p : Part) where
   pub part-none : length text ≤ p .start → partOf text p ≡ []
   part-none h = rw (drop-of-length-le text h) (take-nil (p .len))

@@ -17,7 +17,7 @@ use Rattle.reading.specs.Walk.{afterFlow}
 use Rattle.unit.specs.MemberList.{Rest, callWith}
 use Rattle.unit.specs.CloseUnit.{memberEntry, Listed, Wrote}
 
-module _ (phase : ℕ) (rules actions markers text outcomes members : List ℕ) (rest : Rest) (behind : ℕ) (ids entries : List ℕ)
+module _ (phase : ℕ) (rules actions markers text outcomes members : List ℕ) (rest : Rest) (past : ℕ) (ids entries : List ℕ)
   where
     abbrev q : Call
     q = callWith phase rules actions markers text outcomes rest
@@ -48,8 +48,8 @@ module _ (phase : ℕ) (rules actions markers text outcomes members : List ℕ) 
           → Listed (gather (memberEntry phase id (ruleList rules) outcomes) unit) entries written entries′
           → flow ≡ lastFlow (actionsOf (actionList actions) rule) → disruptive ≡ lastDisruptive
           (actionsOf (actionList actions) rule)
-          → next ≡ min (afterFlow q behind flow) (ruleCount q)
-          → Wrote q unit behind ids entries
+          → next ≡ min (afterFlow q past flow) (ruleCount q)
+          → Wrote q unit past ids entries
           (record { ids = listed; entries = written; next = next; disruptive = disruptive }) ids′ entries′
       closed-now listed written next flow disruptive ids′ entries′ a b l f d n =
           record {

@@ -1,4 +1,4 @@
--- Where the walk goes on behind a closed unit, case by case. Assumes nothing.
+-- Where the walk goes on after a closed unit, case by case. Assumes nothing.
 use Prim.Native.Nat.{ℕ, _+_, _≤_, _<_, min}
 use mathlib.Core.Path.{_≡_, refl, sym, _∙_}
 use mathlib.Core.Bool.{Bool, true, false, cond}
@@ -18,45 +18,45 @@ use Rattle.reading.specs.Walk.{jumpFrom, afterFlow, noAction}
 use Rattle.unit.specs.MemberList.{Rest, callWith}
 
 -- 01's reading jumps only to a position that is greater
-rust-jumps : (position behind : ℕ) (b : Bool) → ltb behind position ≡ b → jumps rust position behind ≡ b
-rust-jumps position behind true e = rw e
-rust-jumps position behind false e = rw e
+rust-jumps : (position past : ℕ) (b : Bool) → ltb past position ≡ b → jumps rust position past ≡ b
+rust-jumps position past true e = rw e
+rust-jumps position past false e = rw e
 
-module _ (behind rules : ℕ) (q : Call) (reading : q .reading ≡ rust) (count : ruleCount q ≡ rules) (found : OptionU64) where
-  pub jump-none : found ≡ OptionU64.None → rules ≡ min (jumpFrom q behind found) rules
+module _ (past rules : ℕ) (q : Call) (reading : q .reading ≡ rust) (count : ruleCount q ≡ rules) (found : OptionU64) where
+  pub jump-none : found ≡ OptionU64.None → rules ≡ min (jumpFrom q past found) rules
   jump-none e = rw (e, count) (omega arith)
 
   module _ (position : ℕ) (is : found ≡ OptionU64.Some position) where
-    by : (b : Bool) → ltb behind position ≡ b → jumpFrom q behind found ≡ cond b position rules
-    by b e = rw (is, reading, rust-jumps position behind b e, count)
+    by : (b : Bool) → ltb past position ≡ b → jumpFrom q past found ≡ cond b position rules
+    by b e = rw (is, reading, rust-jumps position past b e, count)
 
-    pub jump-back : position ≤ behind → rules ≡ min (jumpFrom q behind found) rules
-    jump-back h = rw (by false (le-ltb behind position h)) (omega arith)
+    pub jump-back : position ≤ past → rules ≡ min (jumpFrom q past found) rules
+    jump-back h = rw (by false (le-ltb past position h)) (omega arith)
 
-    pub jump-far : behind < position → rules ≤ position → rules ≡ min (jumpFrom q behind found) rules
-    jump-far h l = rw (by true (lt-ltb behind position h)) (omega arith)
+    pub jump-far : past < position → rules ≤ position → rules ≡ min (jumpFrom q past found) rules
+    jump-far h l = rw (by true (lt-ltb past position h)) (omega arith)
 
-    pub jump-to : behind < position → position < rules → position ≡ min (jumpFrom q behind found) rules
-    jump-to h l = rw (by true (lt-ltb behind position h)) (omega arith)
+    pub jump-to : past < position → position < rules → position ≡ min (jumpFrom q past found) rules
+    jump-to h l = rw (by true (lt-ltb past position h)) (omega arith)
 
 -- what the callees gave, for a call with these lists
-module _ (phase : ℕ) (rules actions markers text outcomes : List ℕ) (rest : Rest) (behind n : ℕ)
+module _ (phase : ℕ) (rules actions markers text outcomes : List ℕ) (rest : Rest) (past n : ℕ)
     (count : n ≡ ruleCount (callWith phase rules actions markers text outcomes rest))
     (flow : FlowOutcome) (r : ℕ) where
   abbrev q : Call
   q = callWith phase rules actions markers text outcomes rest
 
-  pub flow-on : flow ≡ FlowOutcome.Continue → r ≡ min (behind + 0) n → r ≡ min (afterFlow q behind flow) (ruleCount q)
-  flow-on f e = let z : behind + 0 ≡ behind = omega arith in e ∙ rw (f, z, count)
+  pub flow-on : flow ≡ FlowOutcome.Continue → r ≡ min (past + 0) n → r ≡ min (afterFlow q past flow) (ruleCount q)
+  flow-on f e = let z : past + 0 ≡ past = omega arith in e ∙ rw (f, z, count)
 
-  pub flow-chain : flow ≡ FlowOutcome.Chain → r ≡ min (behind + 0) n → r ≡ min (afterFlow q behind flow) (ruleCount q)
-  flow-chain f e = let z : behind + 0 ≡ behind = omega arith in e ∙ rw (f, z, count)
+  pub flow-chain : flow ≡ FlowOutcome.Chain → r ≡ min (past + 0) n → r ≡ min (afterFlow q past flow) (ruleCount q)
+  flow-chain f e = let z : past + 0 ≡ past = omega arith in e ∙ rw (f, z, count)
 
-  pub flow-skip : (k : ℕ) → flow ≡ FlowOutcome.Skip k → r ≡ min (behind + k) n → r ≡ min (afterFlow q behind flow) (ruleCount q)
+  pub flow-skip : (k : ℕ) → flow ≡ FlowOutcome.Skip k → r ≡ min (past + k) n → r ≡ min (afterFlow q past flow) (ruleCount q)
   flow-skip k f e = e ∙ rw (f, count)
 
   pub flow-after : (at : ℕ) → flow ≡ FlowOutcome.SkipAfter at → (found : OptionU64)
       → found ≡ markerPosition text (markerList markers) (partOf text (getD (actionList actions) at noAction .text))
-      → ((p : Call) → p .reading ≡ rust → ruleCount p ≡ n → r ≡ min (jumpFrom p behind found) n)
-      → r ≡ min (afterFlow q behind flow) (ruleCount q)
+      → ((p : Call) → p .reading ≡ rust → ruleCount p ≡ n → r ≡ min (jumpFrom p past found) n)
+      → r ≡ min (afterFlow q past flow) (ruleCount q)
   flow-after at f found g e = e q refl (sym count) ∙ rw (f, g, count)

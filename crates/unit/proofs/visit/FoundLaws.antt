@@ -29,10 +29,10 @@ module _ (removed : Bool) (outcome : ℕ) (kept : removed ≡ false) where
 
 module _ (words : List ℕ) (at : State) (visits : ℕ) (found : Verdict) (first : ℕ) (first-is : first ≡ entryBy at visits)
     (r : VisitOutcome) where
-  pub behind : length words / 5 ≤ at .next → r ≡ passed found (at .next) (at .chained) first → r ≡ foundAt (ruleList words) at
+  pub past : length words / 5 ≤ at .next → r ≡ passed found (at .next) (at .chained) first → r ≡ foundAt (ruleList words) at
       visits found
   unfolding foundAt
-  behind h e =
+  past h e =
       let z : length (ruleList words) ≤ at .next = omega (arith, length-rules words) in
       rw (le-ltb (at .next) (length (ruleList words)) z, e, first-is)
 

@@ -1,4 +1,4 @@
--- `abi::marker_words::unpack` meets its contract: a walk of its MIR, by hand, with a loop. The slice of records is looked into at each turn, and the record at i is copied out. Its three numbers are stored straight into the array of the local `_3`: before the loop the struct is taken apart into the numbers of its array, side by side, and the way back (`apart`), and behind the loop it is put together again (`together`).
+-- `abi::marker_words::unpack` meets its contract: a walk of its MIR, by hand, with a loop. The slice of records is looked into at each turn, and the record at i is copied out. Its three numbers are stored straight into the array of the local `_3`: before the loop the struct is taken apart into the numbers of its array, side by side, and the way back (`apart`), and after the loop it is put together again (`together`).
 -- The invariant: i + t is the number of records that are copied, i is in `_5`, and the array holds some ws, equal to the numbers of the first i records. t, what is left, falls. (ws is a variable: antt would compute `wordsOf []`, which is 771 zeros, at each comparison.)
 --     At i ws      what is had at the loop's head.        more, ends      a turn that copies one record, and the turn that leaves the loop, with the rest of the body
 -- All that the proof knows of `zeros` and of `kept` is that each meets its contract.

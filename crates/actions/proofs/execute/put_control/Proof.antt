@@ -1,4 +1,4 @@
--- `actions::execute::put_control` meets its contract. Where the list is full, setting an entry behind its end changes nothing.
+-- `actions::execute::put_control` meets its contract. Where the list is full, setting an entry after its end changes nothing.
 use borrow.Author.Needs.{needs}
 use mathlib.Core.Path.{sym}
 use native.Mathlib.Omega.{arith}

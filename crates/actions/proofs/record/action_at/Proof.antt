@@ -1,12 +1,12 @@
 -- `actions::record::action_at` meets its contract.
 use borrow.Author.Needs.{needs}
 use mathlib.Core.Path.{sym}
-use Rattle.lists.proofs.RecordLaws.{action-is, action-behind}
+use Rattle.lists.proofs.RecordLaws.{action-is, action-past}
 use Rattle.actions.proofs.record.action_at.Statement.{statement}
 use Rattle.actions.proofs.record.action_at.Tie as tie
 
 returns : tie.Need-returns
-returns c = sym (action-behind (c .before .args .actions .now) (c .before .args .index) (c .if1 .taken))
+returns c = sym (action-past (c .before .args .actions .now) (c .before .args .index) (c .if1 .taken))
 
 mul-at : tie.Need-mul-at
 mul-at c = search needs

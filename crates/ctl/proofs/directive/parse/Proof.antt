@@ -9,7 +9,7 @@ use Rattle.reading.specs.Text.{ascii, same, fold}
 use Rattle.ctl.proofs.directive.parse.Statement.{statement}
 use Rattle.ctl.proofs.directive.parse.Tie as tie
 
--- where both texts are trimmed, seen from behind each test that failed
+-- where both texts are trimmed, seen from after each test that failed
 abbrev trim1 : tie.Else1 → tie.After-trim2
 trim1 c = c .before .before .before
 

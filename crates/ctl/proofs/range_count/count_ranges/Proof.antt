@@ -42,8 +42,8 @@ module _ (c : tie.After-shared-slice-known2 Inv-loop μ-loop) where
   abbrev byte : ℕ
   byte = getD value index 0
 
-  abbrev behind : PartState → ℕ → RangeCount
-  behind p n = scan (drop (suc index) value) p n
+  abbrev past : PartState → ℕ → RangeCount
+  past p n = scan (drop (suc index) value) p n
 
   inside : index < length value
   inside = c .before .loop-test .taken
@@ -53,7 +53,7 @@ module _ (c : tie.After-shared-slice-known2 Inv-loop μ-loop) where
 
 -- each turn, by what the call of that arm answers
 comma-turn : (c : tie.After-part-end Inv-loop μ-loop) (end : PartEnd) → c .part-end .result ≡ end
-    → (let at = c .before .before in countIn (removalValue (value at)) ≡ afterPart (behind at partStart) (number at) end)
+    → (let at = c .before .before in countIn (removalValue (value at)) ≡ afterPart (past at partStart) (number at) end)
 comma-turn c end e =
     let at = c .before .before in
     held at ∙ turn-comma (value at) (seen at) (number at) (index at) (inside at) end (c .before .if1 .taken)
@@ -61,7 +61,7 @@ comma-turn c end e =
 
 digit-turn : (c : tie.After-on-digit Inv-loop μ-loop) (step : Step) → c .on-digit .result ≡ step
     → (let at = c .before .before .before .before in
-    countIn (removalValue (value at)) ≡ afterStep (λ q. behind at q (number at)) step)
+    countIn (removalValue (value at)) ≡ afterStep (λ q. past at q (number at)) step)
 digit-turn c step e =
     let else = c .before .before .before in
     let at = else .before in
@@ -70,7 +70,7 @@ digit-turn c step e =
 
 other-turn : (c : tie.After-on-other Inv-loop μ-loop) (step : Step) → c .on-other .result ≡ step
     → (let at = c .before .before .before .before in
-    countIn (removalValue (value at)) ≡ afterStep (λ q. behind at q (number at)) step)
+    countIn (removalValue (value at)) ≡ afterStep (λ q. past at q (number at)) step)
 other-turn c step e =
     let else = c .before .before .before in
     let at = else .before in
@@ -92,10 +92,10 @@ part-few c =
     let at = c .before .before in
     few (seen (at .before .before)) (c .k .given .0 .0) (sym (at .part-end .ensures) ∙ c .k .given .1)
 
--- what is counted from behind a part on
+-- what is counted from after a part on
 part-turn : (c : tie.After-k Inv-loop μ-loop)
     → (let at = c .before .before .before .before in
-    countIn (removalValue (value at)) ≡ behind at partStart (number at + c .k .given .0 .0))
+    countIn (removalValue (value at)) ≡ past at partStart (number at + c .k .given .0 .0))
 part-turn c = comma-turn (c .before .before) (PartEnd.Counts (c .k .given .0 .0)) (c .k .given .1)
 
 last-few : (c : tie.After-k2 Inv-loop μ-loop) → c .k2 .given .0 .0 ≤ 1

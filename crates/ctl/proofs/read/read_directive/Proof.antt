@@ -34,7 +34,7 @@ room c = min (length (starts c)) (length (ends c))
 abbrev many : tie.Start → ℕ
 many c = length (rangesOf (directiveOf (name c) (value c)))
 
--- a call that is turned away leaves what was lent
+-- a call that is refused leaves what was lent
 turned : (c : tie.Start) (n : ℕ) (r : ReadAnswer) → r ≡ refusedOutcome n
     → readerAnswer (name c) (value c) (room c) ≡ n → eqb n 0 ≡ false
     → outcomeFound r (starts c) (ends c) ≡ readerOutcome (name c) (value c) (starts c) (ends c)
@@ -42,7 +42,7 @@ turned c n r e answer nonzero =
     ap (λ (r : ReadAnswer). outcomeFound r (starts c) (ends c)) e
     ∙ refusal-answer (name c) (value c) (starts c) (ends c) n answer nonzero
 
--- the call, seen from behind the tests on the texts, and from where the ranges are counted
+-- the call, seen from after the tests on the texts, and from where the ranges are counted
 abbrev call : tie.Else4 → tie.Start
 call c = c .before .before .before .before .before .before .before .before .before .before
 

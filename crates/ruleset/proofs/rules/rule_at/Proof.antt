@@ -2,12 +2,12 @@
 use borrow.Author.Needs.{needs}
 use mathlib.Core.Path.{sym}
 use Rattle.reading.specs.Call.{noRule}
-use Rattle.lists.proofs.RecordLaws.{rule-is, rule-behind}
+use Rattle.lists.proofs.RecordLaws.{rule-is, rule-past}
 use Rattle.ruleset.proofs.rules.rule_at.Statement.{statement}
 use Rattle.ruleset.proofs.rules.rule_at.Tie as tie
 
 returns : tie.Need-returns
-returns c = sym (rule-behind (c .before .args .rules .now) (c .before .args .index) noRule (c .if1 .taken))
+returns c = sym (rule-past (c .before .args .rules .now) (c .before .args .index) noRule (c .if1 .taken))
 
 mul-at : tie.Need-mul-at
 mul-at c = search needs

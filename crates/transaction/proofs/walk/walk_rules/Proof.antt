@@ -24,7 +24,7 @@ use Rattle.transaction.specs.RunPhase.{callOf}
 use Rattle.transaction.specs.WalkRules.{fresh, Ready, Walked, UnitClosed}
 use Rattle.transaction.proofs.Found.{verdict-found, visit-found}
 use Rattle.transaction.proofs.Progress.{Sofar, sofar-none, sofar-end, few-ranges, journal-same, ids-same, entries-same}
-use Rattle.transaction.proofs.Turn.{Turning, inside-rules, behind-rules, journal-ahead, visits-fit, journal-long}
+use Rattle.transaction.proofs.Turn.{Turning, inside-rules, past-rules, journal-ahead, visits-fit, journal-long}
 use Rattle.transaction.proofs.Turn.{sofar-on, fewer-left-on, sofar-error, room-closed, ids-closed, entries-closed}
 use Rattle.transaction.proofs.Turn.{sofar-closed, fewer-left-closed, walked-closed}
 use Rattle.transaction.proofs.walk.walk_rules.Statement.{statement}
@@ -405,7 +405,7 @@ returns-3 c =
     (sofar-end (Q (h .before)) (T (h .before)) (now (a .ids)) (now (a .entries)) (now (a .journal))
     (h .loop .ids) (h .loop .entries) (h .loop .journal) (held-at h) (h .loop .at .state) (h .loop .at .visits) (h .loop .at .ids)
     (h .loop .at .entries) (h .loop .inv .0)
-    (behind-rules (now (a .rules)) (h .loop .at .state .next) (c .before .before .if1 .left))))
+    (past-rules (now (a .rules)) (h .loop .at .state .next) (c .before .before .if1 .left))))
 
 pub walk-rules-spec : {M : Type 1} → statement M
 walk-rules-spec =

@@ -54,7 +54,7 @@ returns c = λ rest.
     let w = entered .put-entries in
     let x = executed .execute-actions in
     closed-now (a .phase) (now (a .rules)) (now (a .actions)) (now (a .markers)) (now (a .text)) (now (a .outcomes))
-    (now (a .members)) rest (a .behind) (now (a .ids)) (now (a .entries))
+    (now (a .members)) rest (a .past) (now (a .ids)) (now (a .entries))
     (r .result) (rw (named .before .before .starter-of .ensures) at (r .ensures)) (i .result) (i .ensures) (p .result) (w .result)
     (c .after-flow .result) (x .result .flow) (x .result .disruptive) _ _ (p .ensures .0) (p .ensures .1) (w .ensures)
     (x .ensures .flow) (x .ensures .disruptive) (c .after-flow .ensures (a .phase) (now (a .outcomes)) rest)

@@ -16,7 +16,7 @@ skip-to-requires c κs = search needs
 
 returns : tie.Need-returns
 returns c = λ phase outcomes rest. let a = c .before .before .before .before .before .before .before .args in
-    flow-on phase (now (a .rules)) (now (a .actions)) (now (a .markers)) (now (a .text)) outcomes rest (a .behind) _
+    flow-on phase (now (a .rules)) (now (a .actions)) (now (a .markers)) (now (a .text)) outcomes rest (a .past) _
     (sym (length-rules (now (a .rules)))) (a .flow) (c .skip-to .result) (c .before .enum-told .given .1)
     (c .skip-to .ensures)
 
@@ -28,7 +28,7 @@ skip-to-requires-2 c κs = search needs
 
 returns-2 : tie.Need-returns-2
 returns-2 c = λ phase outcomes rest. let a = c .before .before .before .before .before .before .before .args in
-    flow-chain phase (now (a .rules)) (now (a .actions)) (now (a .markers)) (now (a .text)) outcomes rest (a .behind) _
+    flow-chain phase (now (a .rules)) (now (a .actions)) (now (a .markers)) (now (a .text)) outcomes rest (a .past) _
     (sym (length-rules (now (a .rules)))) (a .flow) (c .skip-to2 .result) (c .before .enum-told2 .given .1)
     (c .skip-to2 .ensures)
 
@@ -40,7 +40,7 @@ skip-to-requires-3 c κs = search needs
 
 returns-3 : tie.Need-returns-3
 returns-3 c = λ phase outcomes rest. let a = c .before .before .before .before .before .before .before .before .args in
-    flow-skip phase (now (a .rules)) (now (a .actions)) (now (a .markers)) (now (a .text)) outcomes rest (a .behind) _
+    flow-skip phase (now (a .rules)) (now (a .actions)) (now (a .markers)) (now (a .text)) outcomes rest (a .past) _
     (sym (length-rules (now (a .rules)))) (a .flow) (c .skip-to3 .result) (c .before .before .flow .given .0 .0)
     (c .before .before .flow .given .1) (c .skip-to3 .ensures)
 
@@ -61,7 +61,7 @@ returns-4 c = λ phase outcomes rest. let a = c .before .before .before .before 
     .before .args in
     let name = c .before .before .before .action-at in
     let found = c .before .marker in
-    flow-after phase (now (a .rules)) (now (a .actions)) (now (a .markers)) (now (a .text)) outcomes rest (a .behind) _
+    flow-after phase (now (a .rules)) (now (a .actions)) (now (a .markers)) (now (a .text)) outcomes rest (a .past) _
     (sym (length-rules (now (a .rules)))) (a .flow) (c .jump-to .result)
     (c .before .before .before .before .before .flow2 .given .0 .0) (c .before .before .before .before .before .flow2 .given .1)
     (found .result) (rw (name .ensures) at (found .ensures)) (c .jump-to .ensures)

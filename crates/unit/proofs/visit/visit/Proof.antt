@@ -1,6 +1,6 @@
 -- `unit::visit::visit` meets its contract.
 use denote.Ref.{now}
-use Rattle.unit.proofs.visit.FoundLaws.{behind, missed, failed, waits, breaks, closes, passes}
+use Rattle.unit.proofs.visit.FoundLaws.{past, missed, failed, waits, breaks, closes, passes}
 use borrow.Author.Needs.{needs}
 use borrow.Author.Needs.{needs}
 use Rattle.unit.proofs.visit.visit.Statement.{statement}
@@ -13,7 +13,7 @@ passing-requires : tie.Need-passing-requires
 passing-requires c κs = search needs
 
 returns : tie.Need-returns
-returns c = behind (now (c .before .before .before .before .args .rules)) (c .before .before .before .before .args .at)
+returns c = past (now (c .before .before .before .before .args .rules)) (c .before .before .before .before .args .at)
     (c .before .before .before .before .args .visits) (c .before .before .before .before .args .found)
     (c .before .before .entry-of .result) (c .before .before .entry-of .ensures) (c .passing .result) (c .before .if1 .taken)
     (c .passing .ensures)
@@ -30,8 +30,8 @@ mul-link-2 c = search needs
 shared-slice-read-link : tie.Need-shared-slice-read-link
 shared-slice-read-link c = search needs
 
-add-behind : tie.Need-add-behind
-add-behind c = search needs
+add-past : tie.Need-add-past
+add-past c = search needs
 
 enum-told : tie.Need-enum-told
 enum-told c = search needs
@@ -139,7 +139,7 @@ visit-spec =
     add-link
     mul-link-2
     shared-slice-read-link
-    add-behind
+    add-past
     enum-told
     after-chain-requires
     passing-requires-2

@@ -1,9 +1,9 @@
--- `behind_break` is safe and ends: each turn looks at one entry more.
+-- `past_break` is safe and ends: each turn looks at one entry more.
 use borrow.Author.Needs.{needs}
 use Prim.Native.Nat.{_-_}
 use native.Mathlib.Omega.{arith}
-use Rattle.cases.proofs.case_walk.behind_break.Statement.{statement}
-use Rattle.cases.proofs.case_walk.behind_break.Tie as tie
+use Rattle.cases.proofs.case_walk.past_break.Statement.{statement}
+use Rattle.cases.proofs.case_walk.past_break.Tie as tie
 
 abbrev Inv-loop : tie.InvT-loop
 Inv-loop rules journal at first₀ k₀ first k = Unit {0}
@@ -35,8 +35,8 @@ loop-again c = tt
 returns : tie.Need-returns Inv-loop μ-loop
 returns c = tt
 
-pub behind-break-spec : {M : Type 1} → statement M
-behind-break-spec =
+pub past-break-spec : {M : Type 1} → statement M
+past-break-spec =
     tie.close
     (tie.spec
     Inv-loop
