@@ -5,6 +5,7 @@ use mathlib.Core.Bool.{Bool, cond, _||_}
 use mathlib.Core.List.{List}
 use lib.ListN.{length}
 use lib.Dec.{ltb, eqb}
+use Rattle.reading.specs.Limits.{mostRules, mostMarkers, mostBytes}
 use Rattle.reading.specs.declared.Marker.{Marker}
 use Rattle.reading.specs.declared.OptionU64.{OptionU64}
 use Rattle.reading.specs.Lists.{any}
@@ -16,7 +17,7 @@ use Rattle.abi.specs.declared.marker_lookup.HostMarker.{HostMarker}
 
 -- 01, 2: "There are more than 512 rules, .. 256 markers or 65,536 text bytes."
 abbrev pub tooMany : List Marker → ℕ → List ℕ → Bool
-tooMany markers rules text = ltb 512 rules || ltb 256 (length markers) || ltb 65536 (length text)
+tooMany markers rules text = ltb mostRules rules || ltb mostMarkers (length markers) || ltb mostBytes (length text)
 
 -- The phase call's refusals that speak of what this question is lent, in 01's order: 2; 5, "a part outside its list or text, or a
 -- marker position above the rule count"; 6, "The text has a byte of 80 (hexadecimal) or more." Any name may be asked for.

@@ -9,7 +9,8 @@ ghost use Prim.Native.Nat.{_<_, min};
 ghost use lib.Dec.{ltb};
 ghost use lib.ListN.{getD};
 ghost use Rattle.reading.specs.Numbers.{modeOfNumber};
-ghost use Rattle.reading.specs.Controls.{isRemoved, inRange, rangeList, modeOr, mostRanges, mostTargets};
+ghost use Rattle.reading.specs.Limits.{mostRanges, mostTargets};
+ghost use Rattle.reading.specs.Controls.{isRemoved, inRange, rangeList, modeOr};
 
 // How many of 256 places are looked at where `count` are said to be in use.
 fn places_in_use(count: usize) -> usize

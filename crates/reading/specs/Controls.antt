@@ -4,6 +4,7 @@ use mathlib.Core.Bool.{Bool, true, false, cond, _&&_, _||_}
 use mathlib.Core.List.{List, [], _∷_, _++_}
 use lib.ListN.{length, getD}
 use lib.Dec.{ltb, leb, eqb}
+use Rattle.reading.specs.Limits.{mostRanges, mostTargets}
 use Rattle.reading.specs.declared.RuleEngineMode.{RuleEngineMode}
 use Rattle.reading.specs.declared.BodyAccess.{BodyAccess}
 use Rattle.reading.specs.declared.BodyProcessor.{BodyProcessor}
@@ -104,12 +105,6 @@ abbrev pub targetList : ℕ → List ℕ → List ℕ → List Place
 targetList count phases positions = pairList (λ phase position. record { phase = phase; position = position }) count phases positions
 
 -- QUESTIONS AND SINGLE ADDITIONS
-
-abbrev pub mostRanges : ℕ
-mostRanges = 256
-
-abbrev pub mostTargets : ℕ
-mostTargets = 64
 
 -- 01: refusal 3, "more than 256 ranges, more than 64 targets"
 unfoldable pub beyondLimits : Controls → Bool

@@ -4,6 +4,7 @@ use mathlib.Core.Bool.{Bool, true, false, cond, _||_}
 use mathlib.Core.List.{List, [], map}
 use lib.ListN.{length}
 use lib.Dec.{ltb, leb, eqb}
+use Rattle.reading.specs.Limits.{mostBytes}
 use Rattle.reading.specs.declared.RuleEngineMode.{RuleEngineMode}
 use Rattle.reading.specs.declared.BodyAccess.{BodyAccess}
 use Rattle.reading.specs.declared.BodyProcessor.{BodyProcessor}
@@ -105,7 +106,7 @@ isHigh b = leb 128 b
 -- 01: "The directive reader gives only 2 (either text too long), 6, and 7 (its range list is shorter than the supported ranges..)"
 unfoldable pub readerAnswer : List ℕ → List ℕ → ℕ → ℕ
 readerAnswer name value room =
-    cond (ltb 65536 (length name) || ltb 65536 (length value)) 2
+    cond (ltb mostBytes (length name) || ltb mostBytes (length value)) 2
     (cond (any isHigh name || any isHigh value) 6
     (cond (ltb room (length (rangesOf (directiveOf name value)))) 7 0))
 

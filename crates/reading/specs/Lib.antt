@@ -1,4 +1,5 @@
 pub mod Lists
+pub mod Limits
 pub mod Text
 pub mod Directive
 pub mod Numbers

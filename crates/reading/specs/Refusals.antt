@@ -10,7 +10,8 @@ use Rattle.reading.specs.declared.Marker.{Marker}
 use Rattle.reading.specs.Lists.{any, total}
 use Rattle.reading.specs.Text.{largest}
 use Rattle.reading.specs.Directive.{Directive, isHigh, rangeCount, targetCount}
-use Rattle.reading.specs.Controls.{beyondLimits, mostRanges, mostTargets}
+use Rattle.reading.specs.Limits.{mostRules, mostActions, mostMarkers, mostBytes, mostRanges, mostTargets}
+use Rattle.reading.specs.Controls.{beyondLimits}
 use Rattle.reading.specs.Actions.{actionsOf, controlsIn, directiveIn}
 use Rattle.reading.specs.Call.{Call, ruleCount}
 
@@ -20,7 +21,8 @@ refused1 q = ltb (q .phase) 1 || ltb 5 (q .phase) || ltb 2 (q .mode)
 
 -- 2. "There are more than 512 rules, 4,096 actions, 256 markers or 65,536 text bytes."
 unfoldable pub refused2 : Call → Bool
-refused2 q = ltb 512 (ruleCount q) || ltb 4096 (length (q .actions)) || ltb 256 (length (q .markers)) || ltb 65536 (length (q .text))
+refused2 q =
+    ltb mostRules (ruleCount q) || ltb mostActions (length (q .actions)) || ltb mostMarkers (length (q .markers)) || ltb mostBytes (length (q .text))
 
 -- 3. "The transaction counts more than 256 ranges, more than 64 targets, or more entries than a lent list has."
 unfoldable pub refused3 : Call → Bool

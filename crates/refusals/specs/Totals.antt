@@ -7,7 +7,7 @@ use lib.Dec.{eqb, ltb}
 use lib.ListN.{length, take, drop, getD}
 use Rattle.reading.specs.declared.Rule.{Rule}
 use Rattle.reading.specs.Lists.{total}
-use Rattle.reading.specs.Controls.{mostRanges, mostTargets}
+use Rattle.reading.specs.Limits.{mostRanges, mostTargets}
 
 -- how many ranges, and how many targets, the action of a code adds
 abbrev pub rangesOfCode : ℕ → ℕ

@@ -12,7 +12,7 @@ ghost use Prim.Native.Nat.{_+_, _/_};
 ghost use lib.ListN.{length};
 ghost use lib.Dec.{ltb};
 ghost use Rattle.reading.specs.Lists.{any};
-ghost use Rattle.reading.specs.Controls.{mostRanges, mostTargets};
+ghost use Rattle.reading.specs.Limits.{mostRanges, mostTargets};
 ghost use Rattle.reading.specs.Records.{ruleList, actionList, markerList};
 ghost use Rattle.reading.specs.Refusals.{badRule, badAction, badMarker, badOutcome};
 ghost use Rattle.reading.specs.Call.{Call};

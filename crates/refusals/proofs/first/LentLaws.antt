@@ -9,7 +9,8 @@ use lib.ListN.{length}
 use lib.Dec.{ltb}
 use Rattle.reading.specs.Lists.{any}
 use Rattle.reading.specs.Directive.{isHigh}
-use Rattle.reading.specs.Controls.{beyondLimits, mostRanges, mostTargets}
+use Rattle.reading.specs.Limits.{mostRanges, mostTargets}
+use Rattle.reading.specs.Controls.{beyondLimits}
 use Rattle.reading.specs.Records.{ruleList, actionList, markerList}
 use Rattle.reading.specs.Call.{Call}
 use Rattle.reading.specs.Refusals.{refused1, refused2, refused3, refused4, refused5, refused6, refused7}

@@ -15,7 +15,7 @@ use Rattle.reading.specs.declared.BodyAccess.{BodyAccess}
 use Rattle.reading.specs.declared.BodyProcessor.{BodyProcessor}
 use Rattle.reading.specs.Lists.{keep, over, total}
 use Rattle.reading.specs.Text.{partOf}
-use Rattle.reading.specs.Controls.{mostRanges, mostTargets}
+use Rattle.reading.specs.Limits.{mostRanges, mostTargets}
 use Rattle.reading.specs.Directive.{Directive, ruleEngine, ruleRemoveById, ruleRemoveTargetById}
 use Rattle.reading.specs.Directive.{requestBodyAccess, requestBodyProcessor, unsupported}
 use Rattle.reading.specs.Directive.{directiveOf, withoutLists, rangeCount, targetCount}

@@ -4,7 +4,7 @@ use mathlib.Core.Path.{_≡_, sym, _∙_}
 use mathlib.Core.Bool.{Bool}
 use denote.Ref.{now}
 use lib.ListN.{take}
-use Rattle.reading.specs.Controls.{mostRanges, mostTargets}
+use Rattle.reading.specs.Limits.{mostRanges, mostTargets}
 use Rattle.reading.specs.Records.{ruleList}
 use Rattle.refusals.specs.Totals.{rangesOfCode, targetsOfCode, addsBeyond}
 use Rattle.refusals.proofs.totals.limit_refusal.Statement.{statement}
