@@ -26,8 +26,8 @@ abbrev pub blank : ℕ → MarkerWords
 blank count = record { words = wordsOf []; count = count }
 
 -- how many of so many markers are copied
-abbrev pub keptOf : ℕ → ℕ
-keptOf count = cond (ltb 257 count) 257 count
+abbrev pub copyCount : ℕ → ℕ
+copyCount count = cond (ltb 257 count) 257 count
 
 -- the records that unpacked numbers stand for: no more than the 257 that are there
 abbrev pub markersIn : MarkerWords → List Marker

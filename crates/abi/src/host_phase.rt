@@ -5,6 +5,7 @@ use crate::host_controls;
 use crate::host_controls::HostControls;
 use crate::host_intervention;
 use crate::host_intervention::HostIntervention;
+use crate::marker_words;
 use crate::marker_words::MarkerWords;
 use crate::values;
 use reading::widths;
@@ -86,14 +87,14 @@ pub fn to_host(t: Transaction) -> HostTransaction
 fn word_count(count: usize) -> usize
     ensures { λ r. ⌜ r ≡ lentWords count ⌝ }
 {
-    if 257 < count {
-        return 771;
+    if marker_words::ROOM < count {
+        return marker_words::NUMBERS;
     }
     widths::MARKER * count
 }
 
 // Those numbers.
-fn lent_words(words: &[u64; 771], count: usize) -> &[u64]
+fn lent_words(words: &[u64; marker_words::NUMBERS], count: usize) -> &[u64]
     ensures { λ r. ⌜ now r ≡ take (lentWords count) (now (words .entry)) ⌝ }
 {
     let all = &words[..];
@@ -111,8 +112,8 @@ fn sizes_of(h: HostTransaction, ids: usize, entries: usize, journal: usize) -> S
         ids_used: h.ids as usize,
         entries_used: h.entries as usize,
         ids,
-        entries: entries / 4,
-        journal: journal / 2,
+        entries: entries / widths::DATA_ENTRY,
+        journal: journal / widths::JOURNAL_ENTRY,
     }
 }
 

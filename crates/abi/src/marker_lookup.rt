@@ -11,6 +11,9 @@ ghost use Rattle.reading.specs.Records.{markerList};
 ghost use Rattle.abi.specs.MarkerWords.{markersIn};
 ghost use Rattle.abi.specs.MarkerLookup.{lookupAnswer, lookup, answered};
 
+// The rules are counted by a host, as a number of 64 bits.
+const MOST_RULES: u64 = limits::RULES as u64;
+
 // What the question answers: 0, or the number of a refusal; 1 and the position where there is a marker of the name, else twice 0.
 #[repr(C)]
 pub struct HostMarker {
@@ -23,7 +26,7 @@ pub struct HostMarker {
 fn refusal(markers: &[u64], rules: u64, text: &[u8]) -> u64
     ensures { λ r. ⌜ r ≡ lookupAnswer (markerList (now (markers .entry))) rules (now (text .entry)) ⌝ }
 {
-    if limits::RULES < rules {
+    if MOST_RULES < rules {
         return 2;
     }
     if limits::MARKERS < markers.len() / widths::MARKER {

@@ -1,13 +1,18 @@
 // The marker records that a host lends, as the numbers that the phase call and the question for a marker read.
 use reading::Marker;
+use reading::limits;
 use reading::widths;
 ghost use mathlib.Core.Path.{_≡_};
-ghost use Rattle.abi.specs.MarkerWords.{markerWordsOf, blank, keptOf};
+ghost use Rattle.abi.specs.MarkerWords.{markerWordsOf, blank, copyCount};
 
-// Three numbers a marker, of the first 257 markers, and zeros after them; and how many markers there are. There is room for one
-// marker more than a phase call takes, so that the call itself refuses a longer list.
+// There is room for one marker more than a phase call takes, so that the call itself refuses a longer list.
+pub const ROOM: usize = limits::MARKERS + 1;
+
+pub const NUMBERS: usize = widths::MARKER * ROOM;
+
+// Three numbers a marker, of as many markers as there is room for, and zeros after them; and how many markers there are.
 pub struct MarkerWords {
-    pub words: [u64; 771],
+    pub words: [u64; NUMBERS],
     pub count: usize,
 }
 
@@ -16,17 +21,17 @@ fn zeros(count: usize) -> MarkerWords
     ensures { λ r. ⌜ r ≡ blank count ⌝ }
 {
     MarkerWords {
-        words: [0u64; 771],
+        words: [0u64; NUMBERS],
         count,
     }
 }
 
 // How many of so many markers are copied.
-fn kept(count: usize) -> usize
-    ensures { λ r. ⌜ r ≡ keptOf count ⌝ }
+fn copy_count(count: usize) -> usize
+    ensures { λ r. ⌜ r ≡ copyCount count ⌝ }
 {
-    if 257 < count {
-        return 257;
+    if ROOM < count {
+        return ROOM;
     }
     count
 }
@@ -37,7 +42,7 @@ pub fn unpack(markers: &[Marker]) -> MarkerWords
 {
     let count = markers.len();
     let mut c = zeros(count);
-    let n = kept(count);
+    let n = copy_count(count);
     let mut i = 0;
     while i < n {
         let m = markers[i];

@@ -6,6 +6,7 @@ use reading::BodyProcessor;
 use reading::CtlDirective;
 use reading::RuleEngineMode;
 use reading::kinds;
+use reading::limits;
 use reading::widths;
 use text::span;
 ghost use mathlib.Core.Path.{_≡_};
@@ -16,13 +17,41 @@ ghost use Rattle.reading.specs.Records.{actionList};
 ghost use Rattle.reading.specs.Walk.{noAction};
 ghost use Rattle.apply.specs.Codes.{codeOf, codeAt, codesOf};
 
+// The codes. An action that changes nothing has 0; one of n ranges has n more than `RANGES`, and no more than `MANY_RANGES`: more
+// ranges than a transaction may hold are refused wherever a rule has the action.
+pub const MODE_ON: u16 = 1;
+
+pub const MODE_DETECTION_ONLY: u16 = 2;
+
+pub const MODE_OFF: u16 = 3;
+
+pub const ACCESS_ON: u16 = 4;
+
+pub const ACCESS_OFF: u16 = 5;
+
+pub const URLENCODED: u16 = 6;
+
+pub const MULTIPART: u16 = 7;
+
+pub const JSON: u16 = 8;
+
+pub const XML: u16 = 9;
+
+pub const TARGET: u16 = 10;
+
+pub const RANGES: u16 = 11;
+
+const TOO_MANY: usize = limits::RANGES + 1;
+
+const MANY_RANGES: u16 = 268;
+
 fn mode_code(mode: RuleEngineMode) -> u16
     ensures { λ r. ⌜ r ≡ codeOf (CtlDirective.RuleEngine mode) ⌝ }
 {
     match mode {
-        RuleEngineMode::On => 1,
-        RuleEngineMode::DetectionOnly => 2,
-        RuleEngineMode::Off => 3,
+        RuleEngineMode::On => MODE_ON,
+        RuleEngineMode::DetectionOnly => MODE_DETECTION_ONLY,
+        RuleEngineMode::Off => MODE_OFF,
     }
 }
 
@@ -30,8 +59,8 @@ fn access_code(access: BodyAccess) -> u16
     ensures { λ r. ⌜ r ≡ codeOf (CtlDirective.RequestBodyAccess access) ⌝ }
 {
     match access {
-        BodyAccess::On => 4,
-        BodyAccess::Off => 5,
+        BodyAccess::On => ACCESS_ON,
+        BodyAccess::Off => ACCESS_OFF,
     }
 }
 
@@ -39,21 +68,21 @@ fn processor_code(processor: BodyProcessor) -> u16
     ensures { λ r. ⌜ r ≡ codeOf (CtlDirective.RequestBodyProcessor processor) ⌝ }
 {
     match processor {
-        BodyProcessor::Urlencoded => 6,
-        BodyProcessor::Multipart => 7,
-        BodyProcessor::Json => 8,
-        BodyProcessor::Xml => 9,
+        BodyProcessor::Urlencoded => URLENCODED,
+        BodyProcessor::Multipart => MULTIPART,
+        BodyProcessor::Json => JSON,
+        BodyProcessor::Xml => XML,
     }
 }
 
-// The code of so many ranges, counted no further than 257.
+// The code of so many ranges, counted no further than one above the limit.
 fn ranges_code(n: usize) -> u16
     ensures { λ r. ⌜ r ≡ codeOf (CtlDirective.RuleRemoveById n) ⌝ }
 {
-    if 257 <= n {
-        return 268;
+    if TOO_MANY <= n {
+        return MANY_RANGES;
     }
-    n as u16 + 11
+    n as u16 + RANGES
 }
 
 // The code of a directive: 0 where it changes nothing.
@@ -63,7 +92,7 @@ fn code_of(directive: CtlDirective) -> u16
     match directive {
         CtlDirective::RuleEngine(mode) => mode_code(mode),
         CtlDirective::RuleRemoveById(n) => ranges_code(n),
-        CtlDirective::RuleRemoveTargetById(_) => 10,
+        CtlDirective::RuleRemoveTargetById(_) => TARGET,
         CtlDirective::RequestBodyAccess(access) => access_code(access),
         CtlDirective::RequestBodyProcessor(processor) => processor_code(processor),
         CtlDirective::Unsupported => 0,

@@ -1,4 +1,5 @@
 // The mode, the body access or the body processor that an action sets, by its code of the module codes.
+use crate::codes;
 use control::state::Settings;
 use reading::AccessSetting;
 use reading::BodyAccess;
@@ -49,31 +50,31 @@ fn processor_set(s: Settings, processor: BodyProcessor) -> Settings
 pub fn set_by_code(s: Settings, code: u16) -> Settings
     ensures { λ r. ⌜ r ≡ settingsAfter code s ⌝ }
 {
-    if code == 1 {
+    if code == codes::MODE_ON {
         return mode_set(s, RuleEngineMode::On);
     }
-    if code == 2 {
+    if code == codes::MODE_DETECTION_ONLY {
         return mode_set(s, RuleEngineMode::DetectionOnly);
     }
-    if code == 3 {
+    if code == codes::MODE_OFF {
         return mode_set(s, RuleEngineMode::Off);
     }
-    if code == 4 {
+    if code == codes::ACCESS_ON {
         return access_set(s, BodyAccess::On);
     }
-    if code == 5 {
+    if code == codes::ACCESS_OFF {
         return access_set(s, BodyAccess::Off);
     }
-    if code == 6 {
+    if code == codes::URLENCODED {
         return processor_set(s, BodyProcessor::Urlencoded);
     }
-    if code == 7 {
+    if code == codes::MULTIPART {
         return processor_set(s, BodyProcessor::Multipart);
     }
-    if code == 8 {
+    if code == codes::JSON {
         return processor_set(s, BodyProcessor::Json);
     }
-    if code == 9 {
+    if code == codes::XML {
         return processor_set(s, BodyProcessor::Xml);
     }
     s

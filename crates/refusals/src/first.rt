@@ -55,13 +55,13 @@ fn is_unknown(phase: u64, mode: u64) -> bool
 fn is_too_large(counts: Counts) -> bool
     ensures { λ r. ⌜ r ≡ (ltb 512 (counts .rules) || ltb 4096 (counts .actions) || ltb 256 (counts .markers) || ltb 65536 (counts .bytes)) ⌝ }
 {
-    if 512 < counts.rules {
+    if limits::RULES < counts.rules {
         return true;
     }
     if limits::ACTIONS < counts.actions {
         return true;
     }
-    if 256 < counts.markers {
+    if limits::MARKERS < counts.markers {
         return true;
     }
     limits::TEXT_BYTES < counts.bytes

@@ -1,4 +1,5 @@
 // Refusals 8 and 9: more ranges, or more targets, than a transaction may hold, counted rule by rule by the codes of apply::codes.
+use apply::codes;
 use reading::limits;
 use reading::widths;
 ghost use mathlib.Core.Path.{_≡_};
@@ -13,7 +14,7 @@ fn weight(code: u16, targets: bool) -> u32
     ensures { λ r. ⌜ (r ≡ weightBy targets code) × (r ≤ 65535) ⌝ }
 {
     if targets {
-        if code == 10 {
+        if code == codes::TARGET {
             return 1;
         }
         return 0;
@@ -21,7 +22,7 @@ fn weight(code: u16, targets: bool) -> u32
     if code < 12 {
         return 0;
     }
-    (code - 11) as u32
+    (code - codes::RANGES) as u32
 }
 
 // Writes, at each index, what so many codes from the first on weigh together.

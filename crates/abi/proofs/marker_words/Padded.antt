@@ -9,7 +9,7 @@ use borrow.Author.Tests.{ltb-true, ltb-false}
 use lib.ListN.{length, getD, take, set, replicate, length-append, length-replicate}
 use lib.Seq.{take-append-le, take-suc, take-length, length-take-le}
 use Rattle.reading.specs.declared.Marker.{Marker}
-use Rattle.abi.specs.MarkerWords.{markerWords, wordsOf, keptOf}
+use Rattle.abi.specs.MarkerWords.{markerWords, wordsOf, copyCount}
 
 abbrev pub noMarker : Marker
 noMarker = record { name = record { start = 0; len = 0 }; position = 0 }
@@ -82,15 +82,15 @@ words-front n k ms h = by n ms h ∙ sym (take-append-le (3 * n) (markerWords ms
         rw (e) (ap (λ (z : List ℕ). m .name .start ∷ m .name .len ∷ m .position ∷ z) (by n ms (omega arith)))
 
 -- how many are copied
-pub few-kept : (n : ℕ) → (keptOf n ≤ n) × (keptOf n ≤ 257)
-few-kept n = by (ltb 257 n) refl
+pub few-copied : (n : ℕ) → (copyCount n ≤ n) × (copyCount n ≤ 257)
+few-copied n = by (ltb 257 n) refl
   where
     by : (b : Bool) → ltb 257 n ≡ b → (cond b 257 n ≤ n) × (cond b 257 n ≤ 257)
     by true e = (omega (arith, ltb-true 257 n e), omega arith)
     by false e = (omega arith, omega (arith, ltb-false 257 n e))
 
 -- after the last turn
-pub all-words : (ms : List Marker) → wordsOf (take (keptOf (length ms)) ms) ≡ wordsOf ms
+pub all-words : (ms : List Marker) → wordsOf (take (copyCount (length ms)) ms) ≡ wordsOf ms
 unfolding wordsOf
 all-words ms = by (ltb 257 (length ms)) refl
   where

@@ -1,7 +1,7 @@
 -- `abi::marker_words::unpack` meets its contract: a walk of its MIR, by hand, with a loop. The slice of records is looked into at each turn, and the record at i is copied out. Its three numbers are stored straight into the array of the local `_3`: before the loop the struct is taken apart into the numbers of its array, side by side, and the way back (`apart`), and after the loop it is put together again (`together`).
 -- The invariant: i + t is the number of records that are copied, i is in `_5`, and the array holds some ws, equal to the numbers of the first i records. t, what is left, falls. (ws is a variable: antt would compute `wordsOf []`, which is 771 zeros, at each comparison.)
 --     At i ws      what is had at the loop's head.        more, ends      a turn that copies one record, and the turn that leaves the loop, with the rest of the body
--- All that the proof knows of `zeros` and of `kept` is that each meets its contract.
+-- All that the proof knows of `zeros` and of `copy_count` is that each meets its contract.
 -- Assumes nothing.
 use mathlib.Core.Path.{_≡_, refl, sym, _∙_, ap, subst}
 use mathlib.Core.Bool.{Bool}
@@ -53,8 +53,8 @@ use denote.Exit.{yes}
 use denote.Signature.{plain, shrSliceOf}
 use Rattle.reading.specs.declared.Marker.{Marker}
 use Rattle.abi.specs.declared.marker_words.MarkerWords.{MarkerWords}
-use Rattle.abi.specs.MarkerWords.{wordsOf, blank, keptOf}
-use Rattle.abi.proofs.marker_words.Padded.{noMarker, threeSet, next-words, words-length, few-kept, all-words}
+use Rattle.abi.specs.MarkerWords.{wordsOf, blank, copyCount}
+use Rattle.abi.proofs.marker_words.Padded.{noMarker, threeSet, next-words, words-length, few-copied, all-words}
 use Rattle.reading.proofs.Marker as R
 use Rattle.reading.proofs.Marker.Laws as R′
 use Rattle.abi.proofs.marker_words.MarkerWords as T
@@ -63,10 +63,10 @@ use Rattle.abi.proofs.marker_words.zeros as zeros
 use Rattle.abi.proofs.marker_words.zeros.Symbol as zeros-def
 use Rattle.abi.proofs.marker_words.zeros.Symbol.{name as #abi·marker-words·zeros}
 use Rattle.abi.proofs.marker_words.zeros.Met as zeros-thm
-use Rattle.abi.proofs.marker_words.kept as kept
-use Rattle.abi.proofs.marker_words.kept.Symbol as kept-def
-use Rattle.abi.proofs.marker_words.kept.Symbol.{name as #abi·marker-words·kept}
-use Rattle.abi.proofs.marker_words.kept.Met as kept-thm
+use Rattle.abi.proofs.marker_words.copy_count as kept
+use Rattle.abi.proofs.marker_words.copy_count.Symbol as kept-def
+use Rattle.abi.proofs.marker_words.copy_count.Symbol.{name as #abi·marker-words·copy-count}
+use Rattle.abi.proofs.marker_words.copy_count.Met as kept-thm
 use Rattle.abi.proofs.marker_words.unpack.Key.{name as #abi·marker-words·unpack}
 use Rattle.abi.proofs.marker_words.unpack as unpack
 use Rattle.abi.proofs.marker_words.unpack.Statement as stated
@@ -123,8 +123,8 @@ module _ {M : Type 1} (𝓤 : URA M) (H : Heap 𝓤) (A : Atoms 𝓤) (mem : Mem
   zeros-of : (n : ℕ) (r : MarkerWords) → ent 𝓤 (ensured 𝓤 H A zeros.ended (zeros.clauses 𝓤 H A mem run) tt (n, tt) tt r) (fact 𝓤 (r ≡ blank n))
   zeros-of n r = exE 𝓤 _ (λ ws. snd∗ 𝓤 (sem 𝓤 H A (lasts zeros.ended tt (n, tt) ws)) (fact 𝓤 (r ≡ blank n)))
 
-  kept-of : (n r : ℕ) → ent 𝓤 (ensured 𝓤 H A kept.ended (kept.clauses 𝓤 H A mem run) tt (n, tt) tt r) (fact 𝓤 (r ≡ keptOf n))
-  kept-of n r = exE 𝓤 _ (λ ws. snd∗ 𝓤 (sem 𝓤 H A (lasts kept.ended tt (n, tt) ws)) (fact 𝓤 (r ≡ keptOf n)))
+  kept-of : (n r : ℕ) → ent 𝓤 (ensured 𝓤 H A kept.ended (kept.clauses 𝓤 H A mem run) tt (n, tt) tt r) (fact 𝓤 (r ≡ copyCount n))
+  kept-of n r = exE 𝓤 _ (λ ws. snd∗ 𝓤 (sem 𝓤 H A (lasts kept.ended tt (n, tt) ws)) (fact 𝓤 (r ≡ copyCount n)))
 
 module _ {M : Type 1} (𝓤 : URA M) (H : Heap 𝓤) (A : Atoms 𝓤) (W : Given 𝓤 H A) (l : ℕ) where
   -- from an array in the struct's place to the struct, of so many markers
@@ -183,7 +183,7 @@ module _ {M : Type 1} (𝓤 : URA M) (H : Heap 𝓤) (A : Atoms 𝓤) (W : Given
   goes-kept : ent 𝓤 (emp 𝓤) (Kept 𝓤 H A at-mem run .pre to-kept)
   goes-kept = qed W [] ∵ nothing ! $ owned ! usize (Is usize) (uint-makes 𝓤 H A W w64) n _ (refl, room .0) $ fjoin ! $ nothing ! $ join ! $ frame ! $ done !
 
-  module _ (k : ℕ) (ek : k ≡ keptOf n) (l0 l1 l2 l3 l4 l5 l6 l7 l8 l9 l10 l11 l12 l13 l14 l15 l16 l17 l18 l19 : ℕ) where
+  module _ (k : ℕ) (ek : k ≡ copyCount n) (l0 l1 l2 l3 l4 l5 l6 l7 l8 l9 l10 l11 l12 l13 l14 l15 l16 l17 l18 l19 : ℕ) where
     exits : (ws : List ℕ) → ws ≡ wordsOf (take k ms) → Is T.the-row (made ws n) (mach (made ws n) ∷ []) → ent 𝓤 (⋆ 𝓤 H A (‵ (flft κ q) ∷ [])) (Post (mach (made ws n)))
     exits ws e is =
         qed W (‵ (flft κ q) ∷ []) ∵
@@ -286,10 +286,10 @@ module _ {M : Type 1} (𝓤 : URA M) (H : Heap 𝓤) (A : Atoms 𝓤) (W : Given
           ws-3 = set ws-2 (3 * i + 2) (rec i .position)
 
           within : i < n
-          within = omega (arith, small, ek, few-kept n .0)
+          within = omega (arith, small, ek, few-copied n .0)
 
           small-257 : i < 257
-          small-257 = omega (arith, small, ek, few-kept n .1)
+          small-257 = omega (arith, small, ek, few-copied n .1)
 
           place-fits : i * 24 < 2 ^ 64
           place-fits = omega (arith, within, room .1)
@@ -354,7 +354,7 @@ module _ {M : Type 1} (𝓤 : URA M) (H : Heap 𝓤) (A : Atoms 𝓤) (W : Given
           (loop-rule 𝓤 H (W .laws) 𝓣 _<_ (Nat·lt-wfRel .wf) En code-mir.turn-1 Left Inv
           (λ t. exE 𝓤 (λ (i : ℕ). ex 𝓤 (λ (ws : List ℕ). guard 𝓤 (Facts t i ws) (⋆ 𝓤 H A (At i ws)))) (λ i. exE 𝓤 (λ (ws : List ℕ). guard 𝓤 (Facts t i ws) (⋆ 𝓤 H A (At i ws))) (λ ws. guardE 𝓤 (Facts t i ws) (⋆ 𝓤 H A (At i ws)) (λ f. turn-at t i ws f)))) k))
 
-  walk : (𝓣 : Tables 𝓤 H) → Triple 𝓤 (𝓣 .C #abi·marker-words·zeros) (Zeros 𝓤 H A at-mem run) → Triple 𝓤 (𝓣 .C #abi·marker-words·kept) (Kept 𝓤 H A at-mem run)
+  walk : (𝓣 : Tables 𝓤 H) → Triple 𝓤 (𝓣 .C #abi·marker-words·zeros) (Zeros 𝓤 H A at-mem run) → Triple 𝓤 (𝓣 .C #abi·marker-words·copy-count) (Kept 𝓤 H A at-mem run)
       → ent 𝓤 (onEntry 𝓤 H A unpack.signature (κ, tt) (q, tt) (x, tt) (s ∷ [], tt)) (WpFn 𝓤 H (𝓣 .C) (𝓣 .Λ) code.function (s ∷ []) Post)
   walk 𝓣 known-zeros known-kept =
       qed W ((‵ (flft κ q) ⊛ ‵ ftrue) ∷ ‵ (owns (ShrSlice (named 0) κ R.the-row ∷ []) (x, tt) (s ∷ [], tt)) ∷ []) ∵ enter ! (𝓣 .C) (𝓣 .Λ) code.function (s ∷ []) _ $
@@ -369,10 +369,10 @@ module _ {M : Type 1} (𝓤 : URA M) (H : Heap 𝓤) (A : Atoms 𝓤) (W : Given
       land ! (from ! (stop !)) (init ! 22 refl (LL.lawful T.the-type T′.the-laws 𝓤 H A W .typed z _ isz .0)) $
       rewrite ! 22 (λ (u : Val). ‵ (fat fullShare T′.mir l8 0 u)) (ap only (T′.lowers .val-is z _ isz)) refl $
       assigns ! (of-opd ! (load ! (from ! (stop !)) (look ! 22 refl))) (from ! (stop !)) (init ! 32 refl (LL.lawful T.the-type T′.the-laws 𝓤 H A W .typed z _ (spelled z w isz) .0)) $
-      -- `kept`
+      -- `copy_count`
       use0 W (raw (Kept 𝓤 H A at-mem run .pre to-kept)) goes-kept $ calls-at ! (fmOf 𝓤 H (W .laws) 𝓣) (Kept 𝓤 H A at-mem run) known-kept to-kept (and-then ! (load ! (from ! (stop !)) (look ! 35 refl)) (no-more !)) (λ v.
       use1 W (later (some (λ (k : ℕ). (‵ ftrue ⊛ ‵ (usize .own k (v ∷ []))) ⊛ raw (ensured 𝓤 H A kept.ended (kept.clauses 𝓤 H A at-mem run) tt (n, tt) tt k)))) (id⊢ 𝓤 _) $ await ! tt $ pick ! (λ k.
-      split ! $ move ! (1 ∷ []) $ use1 W (raw (fact 𝓤 (k ≡ keptOf n))) (kept-of 𝓤 H A at-mem run n k) $ heard ! (k ≡ keptOf n) (λ ek. split ! $ drop ! $
+      split ! $ move ! (1 ∷ []) $ use1 W (raw (fact 𝓤 (k ≡ copyCount n))) (kept-of 𝓤 H A at-mem run n k) $ heard ! (k ≡ copyCount n) (λ ek. split ! $ drop ! $
       facts ! usize (Is usize) (shows 𝓤 H A usize) k (v ∷ []) (λ isk.
       land ! (from ! (stop !)) (init ! 30 refl (uint-lawful 𝓤 H A W w64 .typed k _ isk .0)) $
       rewrite ! 30 (λ (u : Val). ‵ (fat fullShare word l4 0 u)) (ap only (isk .0)) refl $
@@ -384,7 +384,7 @@ module _ {M : Type 1} (𝓤 : URA M) (H : Heap 𝓤) (A : Atoms 𝓤) (W : Given
       rewrite ! 1 (λ (u : ℕ). raw (Way 𝓤 H A W l3 u)) (ap (λ (u : MarkerWords). u .count) ez) refl $
       move ! (0 ∷ 1 ∷ 3 ∷ 2 ∷ 4 ∷ 5 ∷ 6 ∷ 7 ∷ 8 ∷ 9 ∷ 10 ∷ 11 ∷ 12 ∷ 13 ∷ 14 ∷ 15 ∷ 16 ∷ 17 ∷ 18 ∷ 19 ∷ 20 ∷ 21 ∷ 22 ∷ 23 ∷ 24 ∷ 25 ∷ 26 ∷ 27 ∷ 28 ∷ 29 ∷ 30 ∷ 31 ∷ 32 ∷ 33 ∷ 34 ∷ 35 ∷ 36 ∷ 37 ∷ 38 ∷ 39 ∷ 40 ∷ 41 ∷ 42 ∷ []) $ looped k ek l0 l1 l2 l3 l4 l5 l6 l7 l8 l9 l10 l11 l12 l13 l14 l15 l16 l17 l18 l19 𝓣 (z .words) (ap (λ (u : MarkerWords). u .words) ez)))))))))))))))))))))))))))))
 
-module _ {M : Type 1} (𝓤 : URA M) (H : Heap 𝓤) (A : Atoms 𝓤) (W : Given 𝓤 H A) (mem : Memory → SProp 𝓤) (run : Routine → Fun 𝓤) (𝓣 : Tables 𝓤 H) (known-zeros : Triple 𝓤 (𝓣 .C #abi·marker-words·zeros) (Zeros 𝓤 H A mem run)) (known-kept : Triple 𝓤 (𝓣 .C #abi·marker-words·kept) (Kept 𝓤 H A mem run)) where
+module _ {M : Type 1} (𝓤 : URA M) (H : Heap 𝓤) (A : Atoms 𝓤) (W : Given 𝓤 H A) (mem : Memory → SProp 𝓤) (run : Routine → Fun 𝓤) (𝓣 : Tables 𝓤 H) (known-zeros : Triple 𝓤 (𝓣 .C #abi·marker-words·zeros) (Zeros 𝓤 H A mem run)) (known-kept : Triple 𝓤 (𝓣 .C #abi·marker-words·copy-count) (Kept 𝓤 H A mem run)) where
   unpack-walks : Walks 𝓤 H A unpack.ended stayed (WpFn 𝓤 H (𝓣 .C) (𝓣 .Λ) code.function) (unpack.clauses 𝓤 H A mem run)
   unpack-walks = walked 𝓤 H A unpack.ended stayed (unpack.clauses 𝓤 H A mem run) (WpFn 𝓤 H (𝓣 .C) (𝓣 .Λ) code.function) (λ κs. (slice-vals, tt)) (λ κs. (shr-slice-tells (named 0) (κs .0) R.the-row, tt))
       (λ κs qs bounds a g are. via 𝓤 _ (fst∗ 𝓤 _ (emp 𝓤)) (walk 𝓤 H A W mem run (κs .0) (qs .0) (a .0 .ptr .0) (a .0 .ptr .1) (a .0 .name) (a .0 .now) (are .0 .0 .1) 𝓣 known-zeros known-kept))
@@ -401,4 +401,4 @@ unpack-spec 𝓤 H 𝓜 𝓖 𝓡 =
     (tables 𝓤 H 𝓜 𝓡 code.env .C) (tables 𝓤 H 𝓜 𝓡 code.env .Λ) #abi·marker-words·unpack code.function (code.unfolded 𝓤 H 𝓜 𝓡)
     (unpack-meets 𝓤 H (𝓖 .A) (givenOf 𝓤 H 𝓜 𝓖) (𝓜 .mem) (𝓡 .run) (tablesOf 𝓤 H 𝓜 (tables 𝓤 H 𝓜 𝓡 code.env))
     (cited 𝓤 H (Zeros 𝓤 H (𝓖 .A) (𝓜 .mem) (𝓡 .run)) 𝓜 𝓡 code.env #abi·marker-words·zeros zeros-def.routine code.calls-abi·marker-words·zeros (zeros-thm.met 𝓤 H 𝓜 𝓖 𝓡))
-    (cited 𝓤 H (Kept 𝓤 H (𝓖 .A) (𝓜 .mem) (𝓡 .run)) 𝓜 𝓡 code.env #abi·marker-words·kept kept-def.routine code.calls-abi·marker-words·kept (kept-thm.met 𝓤 H 𝓜 𝓖 𝓡)))
+    (cited 𝓤 H (Kept 𝓤 H (𝓖 .A) (𝓜 .mem) (𝓡 .run)) 𝓜 𝓡 code.env #abi·marker-words·copy-count kept-def.routine code.calls-abi·marker-words·copy-count (kept-thm.met 𝓤 H 𝓜 𝓖 𝓡)))

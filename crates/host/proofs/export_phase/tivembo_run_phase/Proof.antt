@@ -52,8 +52,8 @@ use Rattle.abi.proofs.host_phase.HostTransaction as T
 use Rattle.abi.proofs.host_phase.HostTransaction.Laws as T′
 use Rattle.abi.proofs.host_phase.HostPhase as P
 use Rattle.abi.proofs.host_phase.HostPhase.Laws as P′
-use Rattle.transaction.proofs.Answer as Q
-use Rattle.transaction.proofs.Answer.Laws as Q′
+use Rattle.transaction.proofs.types.Answer as Q
+use Rattle.transaction.proofs.types.Answer.Laws as Q′
 use Rattle.reading.specs.declared.Marker.{Marker}
 use Rattle.abi.specs.declared.marker_words.MarkerWords.{MarkerWords}
 use Rattle.reading.proofs.Marker as R-Marker

@@ -103,7 +103,7 @@ leave-unit-requires : tie.Need-leave-unit-requires
 leave-unit-requires c κs =
     let u = closed (c .before .before .before .before .before .before .before .before) in
     let s = entered u in
-    let few = wrote-few _ _ _ _ _ _ _ _ (u .finish-unit-unit .ensures (anyRest s)) in
+    let few = wrote-few _ _ _ _ _ _ _ _ (u .close-unit .ensures (anyRest s)) in
     let ids = now (s .args .ids) in
     let entries = now (s .args .entries) in
     let i = s .args .at .ids in
@@ -138,22 +138,22 @@ returns c = λ rest mode status.
     let a = s .args in
     let ids = now (a .ids) in
     let entries = now (a .entries) in
-    let lists = u .finish-unit-unit .last .1 .1 .1 .1 .1 .1 .1 .1 in
+    let lists = u .close-unit .last .1 .1 .1 .1 .1 .1 .1 .1 in
     let arrays = x .unit-controls .last .1 .1 .1 .1 .1 .1 .1 in
     let q = callWith (a .call .phase) (now (a .rules)) (now (a .actions)) (now (a .markers)) (now (a .text)) (now (a .outcomes)) rest in
     let held = structOf (x .unit-controls .result) (arrays .0) (arrays .1 .0) (arrays .1 .1 .0) (arrays .1 .1 .1 .0) in
     record {
-      gave = u .finish-unit-unit .result;
+      gave = u .close-unit .result;
       held = x .unit-controls .result;
       free-ids = lists .0;
       free-entries = lists .1 .0;
-      wrote = rw (lent-is ids (a .at .ids), lent-is entries (4 * a .at .entries)) at (u .finish-unit-unit .ensures rest);
+      wrote = rw (lent-is ids (a .at .ids), lent-is entries (4 * a .at .entries)) at (u .close-unit .ensures rest);
       ids-are = put-back ids (a .at .ids) (lists .0);
       entries-are = put-back entries (4 * a .at .entries) (lists .1 .0);
       turned = x .unit-controls .ensures .0 (s .pre .1);
       left-is =
           c .leave-unit .ensures (now (a .markers)) (now (a .text)) (now (a .outcomes)) rest status
-          ∙ ap (λ (m : RuleEngineMode). leftUnder m q (membersAt (a .at) (now (a .journal))) (a .at) (u .finish-unit-unit .result)
+          ∙ ap (λ (m : RuleEngineMode). leftUnder m q (membersAt (a .at) (now (a .journal))) (a .at) (u .close-unit .result)
           (x .unit-controls .result)) (mode-law q held (modeOfNumber (a .call .mode)) _ (ap modeOfNumber (sym mode)) refl);
     }
 
