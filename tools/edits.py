@@ -19,14 +19,15 @@ def read(path):
 
 def programs(edit):
     """Each wrong program, contract or definition of an edit. They stand apart by an empty line, each under a comment
-    `# name: what it does`; with one alone the name is the file's, but for a file wrong_programs_N."""
+    `# name: what it does`; with one alone the name is the file's, but for a file wrong_programs_N, wrong_contracts_N or
+    wrong_definitions_N."""
     own = os.path.basename(edit)[:-5]
     parts = [part for part in re.split(r"\n\n+", read(edit).strip("\n")) if part]
     for part in parts:
         table = re.search(r"^# table: (\S+)$", part, re.M)
         says = " ".join(line[1:].strip() for line in part.split("\n") if line.startswith("#") and not line.startswith("# table: "))
         named = re.match(r"(\w+): ", says)
-        is_named = len(parts) > 1 or re.fullmatch(r"wrong_programs_\d+", own)
+        is_named = len(parts) > 1 or re.fullmatch(r"wrong_(?:programs|contracts|definitions)_\d+", own)
         if is_named and not named:
             raise SystemExit(f"{edit}: a wrong program without a name: {says}")
         name = named.group(1) if is_named else own
