@@ -147,7 +147,7 @@ impl Walk<'_> {
         self.break_chain(index)
     }
 
-    /// The index behind the closing rule of the chain that a rule is in.
+    /// The index after the closing rule of the chain that a rule is in.
     fn break_chain(&mut self, index: usize) -> usize {
         self.members.clear();
         let rest = index..self.call.rules.len();

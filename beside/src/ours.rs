@@ -10,7 +10,7 @@ use tivembo::{HostIntervention, HostTransaction, Place};
 /// What entries that a call must not write hold.
 const PATTERN: u64 = 0xA5A5_5A5A_0F0F_F0F0;
 
-/// Entries of each list behind those that a call may need.
+/// Entries of each list after those that a call may need.
 const SPARE: usize = 2;
 
 /// A transaction with its lists.
@@ -119,7 +119,7 @@ impl Ours {
                 kept(&self.entries, &lists.1, before.entries, now.entries, 4),
             ),
             (
-                "journal behind the visits",
+                "journal after the visits",
                 journal.is_some_and(|rest| rest.iter().all(|word| *word == PATTERN)),
             ),
             (
@@ -218,7 +218,7 @@ mod tests {
         let data = ["data list besides the new entries"];
         assert_eq!(faults(|ours| ours.entries[3] = 7, 1), data);
         assert_eq!(faults(|ours| ours.entries[4] = 7, 1), data);
-        let journal = ["journal behind the visits"];
+        let journal = ["journal after the visits"];
         assert_eq!(faults(|ours| ours.journal[2] = 7, 1), journal);
         assert_eq!(faults(|_| (), 100), journal);
         let record = ["record of a call without visits"];

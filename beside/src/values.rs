@@ -93,7 +93,7 @@ fn blanks(random: &mut Random) -> Vec<u8> {
     (0..count).map(|_| random.pick(&BLANKS)).collect()
 }
 
-/// Blanks before and behind, or none.
+/// Blanks before and after, or none.
 pub fn around(random: &mut Random, text: Vec<u8>) -> Vec<u8> {
     [blanks(random), text, blanks(random)].concat()
 }
@@ -180,7 +180,7 @@ fn number(random: &mut Random) -> u64 {
     }
 }
 
-/// A number's digits, at times behind a plus sign, and with zeros up to 20, 21 or another number of digits.
+/// A number's digits, at times after a plus sign, and with zeros up to 20, 21 or another number of digits.
 fn spelled(random: &mut Random, number: u64) -> Vec<u8> {
     let sign = if random.once_in(8) { "+" } else { "" };
     let width = match random.below(20) {

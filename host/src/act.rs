@@ -24,7 +24,7 @@ pub enum Act<'a> {
     Chain,
     /// Passes so many rules, at most 4294967295.
     Skip(u64),
-    /// Jumps behind the marker of this name.
+    /// Jumps after the marker of this name.
     SkipAfter(&'a [u8]),
     /// No effect, but it is a flow action: as the last one it takes the place of a skip.
     MultiMatch,

@@ -1,7 +1,7 @@
 //! What directives have set, and questions to it.
 
 use crate::exported;
-use crate::records::{HostAsked, HostControls};
+use crate::records::{HostControls, HostQueryAnswer};
 use crate::values::{BodyProcessor, Mode, Place};
 use crate::Refusal;
 
@@ -92,6 +92,6 @@ impl<'a> Controls<'a> {
     }
 }
 
-fn value(asked: HostAsked) -> Result<u64, Refusal> {
+fn value(asked: HostQueryAnswer) -> Result<u64, Refusal> {
     Refusal::unless(asked.answer, asked.value)
 }

@@ -73,10 +73,10 @@ fn ranges(name: &[u8], value: &[u8]) -> Vec<(u64, u64)> {
 
 /// The two trimmed sides of the ';' at `cut`.
 fn sides(value: &[u8], cut: u64) -> Option<Target<'_>> {
-    let (rule_id, behind) = value.split_at_checked(usize::try_from(cut).ok()?)?;
+    let (rule_id, after) = value.split_at_checked(usize::try_from(cut).ok()?)?;
     Some(Target {
         rule_id: trim(rule_id),
-        target: trim(behind.strip_prefix(b";")?),
+        target: trim(after.strip_prefix(b";")?),
     })
 }
 

@@ -9,8 +9,8 @@
 
 use crate::raw::{Lent, Lists};
 use crate::records::{
-    Action, DataRecord, HostAnswer, HostAsked, HostChanged, HostControls, HostMarker, HostNumber,
-    HostTarget, HostTransaction, JournalRecord, Marker, ReadRecord, Rule,
+    Action, DataRecord, HostAnswer, HostChangeAnswer, HostControls, HostMarker, HostNumber,
+    HostQueryAnswer, HostTarget, HostTransaction, JournalRecord, Marker, ReadRecord, Rule,
 };
 use crate::Outcome;
 
@@ -49,14 +49,15 @@ extern "C" {
         ends_len: usize,
     ) -> ReadRecord;
 
-    fn tivembo_engine_mode(controls: HostControls, ruleset_mode: u64) -> HostAsked;
-    fn tivembo_is_rule_removed(controls: HostControls, id: HostNumber) -> HostAsked;
-    fn tivembo_target_count(controls: HostControls) -> HostAsked;
+    fn tivembo_engine_mode(controls: HostControls, ruleset_mode: u64) -> HostQueryAnswer;
+    fn tivembo_is_rule_removed(controls: HostControls, id: HostNumber) -> HostQueryAnswer;
+    fn tivembo_target_count(controls: HostControls) -> HostQueryAnswer;
     fn tivembo_target_at(controls: HostControls, at: u64) -> HostTarget;
-    fn tivembo_request_body_access(controls: HostControls) -> HostAsked;
-    fn tivembo_request_body_processor(controls: HostControls) -> HostAsked;
-    fn tivembo_remove_range(controls: HostControls, start: u64, end: u64) -> HostChanged;
-    fn tivembo_remove_target(controls: HostControls, phase: u64, position: u64) -> HostChanged;
+    fn tivembo_request_body_access(controls: HostControls) -> HostQueryAnswer;
+    fn tivembo_request_body_processor(controls: HostControls) -> HostQueryAnswer;
+    fn tivembo_remove_range(controls: HostControls, start: u64, end: u64) -> HostChangeAnswer;
+    fn tivembo_remove_target(controls: HostControls, phase: u64, position: u64)
+        -> HostChangeAnswer;
 
     fn tivembo_marker_position(
         markers: *const Marker,
@@ -156,21 +157,21 @@ macro_rules! by_value {
 
 by_value! {
     /// The number of the mode in force (0 On, 1 DetectionOnly, 2 Off) where the rule set has this one.
-    engine_mode = tivembo_engine_mode(controls: HostControls, ruleset_mode: u64) -> HostAsked;
+    engine_mode = tivembo_engine_mode(controls: HostControls, ruleset_mode: u64) -> HostQueryAnswer;
     /// 1 where a rule with this id, or with none, is removed, else 0.
-    is_rule_removed = tivembo_is_rule_removed(controls: HostControls, id: HostNumber) -> HostAsked;
+    is_rule_removed = tivembo_is_rule_removed(controls: HostControls, id: HostNumber) -> HostQueryAnswer;
     /// How many removed targets are held.
-    target_count = tivembo_target_count(controls: HostControls) -> HostAsked;
-    /// The removed target at a place of the list, counted from 0, or none behind its end.
+    target_count = tivembo_target_count(controls: HostControls) -> HostQueryAnswer;
+    /// The removed target at a place of the list, counted from 0, or none after its end.
     target_at = tivembo_target_at(controls: HostControls, at: u64) -> HostTarget;
     /// 0 where body access is on, 1 where it is off.
-    request_body_access = tivembo_request_body_access(controls: HostControls) -> HostAsked;
+    request_body_access = tivembo_request_body_access(controls: HostControls) -> HostQueryAnswer;
     /// 0 where no body processor is set, else its number: 1 URLENCODED, 2 MULTIPART, 3 JSON, 4 XML.
-    request_body_processor = tivembo_request_body_processor(controls: HostControls) -> HostAsked;
+    request_body_processor = tivembo_request_body_processor(controls: HostControls) -> HostQueryAnswer;
     /// Adds a range of removed ids.
-    remove_range = tivembo_remove_range(controls: HostControls, start: u64, end: u64) -> HostChanged;
+    remove_range = tivembo_remove_range(controls: HostControls, start: u64, end: u64) -> HostChangeAnswer;
     /// Adds the place of a removed target.
-    remove_target = tivembo_remove_target(controls: HostControls, phase: u64, position: u64) -> HostChanged;
+    remove_target = tivembo_remove_target(controls: HostControls, phase: u64, position: u64) -> HostChangeAnswer;
 }
 
 /// Records that are 64-bit numbers and nothing else.
@@ -195,7 +196,7 @@ fn count<T: Words>(records: &[T]) -> usize {
 
 /// The numbers of a list of records, without a copy.
 pub fn words<T: Words>(records: &[T]) -> &[u64] {
-    // SAFETY: the records are so many numbers one behind the other, and stay borrowed as long as the numbers are.
+    // SAFETY: the records are so many numbers one after the other, and stay borrowed as long as the numbers are.
     unsafe { std::slice::from_raw_parts(records.as_ptr().cast(), count(records)) }
 }
 

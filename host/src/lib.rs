@@ -72,9 +72,9 @@ pub use intervention::{Intervention, Metadata};
 pub use limits::{Broken, Limit, Where};
 pub use phase::{Answer, Phase};
 pub use records::{
-    Action, DataRecord, HostAnswer, HostAsked, HostChanged, HostControls, HostIntervention,
-    HostMarker, HostMetadata, HostNumber, HostPlace, HostTarget, HostTransaction, JournalRecord,
-    Marker, Part, Rule, MOST_RANGES, MOST_TARGETS,
+    Action, DataRecord, HostAnswer, HostChangeAnswer, HostControls, HostIntervention, HostMarker,
+    HostMetadata, HostNumber, HostPlace, HostQueryAnswer, HostTarget, HostTransaction,
+    JournalRecord, Marker, Part, Rule, MOST_RANGES, MOST_TARGETS,
 };
 pub use refusal::Refusal;
 pub use ruleset::{Builder, Records, RuleSet};

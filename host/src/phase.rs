@@ -5,7 +5,7 @@ use crate::records::{DataRecord, HostAnswer, HostTransaction, JournalRecord};
 use crate::transaction::Transaction;
 use crate::values::{Data, Place, Verdict};
 
-/// How a phase ended that was not turned away.
+/// How a phase ended that was not refused.
 #[derive(Debug, Clone, Copy, PartialEq, Eq, Hash)]
 pub enum Answer {
     /// 0: the phase was carried through.
@@ -83,13 +83,13 @@ impl<'t> Phase<'t> {
 
     /// The matched ids that this call added.
     pub fn ids(&self) -> &'t [u64] {
-        behind(self.transaction.matched_ids(), self.before.ids)
+        after(self.transaction.matched_ids(), self.before.ids)
     }
 
     /// The data entries that this call added.
     pub fn data(&self) -> impl Iterator<Item = Data> + 't {
         let entries = self.transaction.data_records();
-        behind(entries, self.before.entries).iter().map(Data::from)
+        after(entries, self.before.entries).iter().map(Data::from)
     }
 
     /// The ranges of removed ids that this call added.
@@ -132,6 +132,6 @@ impl From<&DataRecord> for Data {
 }
 
 /// What a call added to a list.
-fn behind<T>(list: &[T], before: usize) -> &[T] {
+fn after<T>(list: &[T], before: usize) -> &[T] {
     list.get(before..).unwrap_or(&[])
 }

@@ -14,7 +14,7 @@ pub use crate::exported::{
 pub use crate::records::ReadRecord;
 
 /// What a phase call reads: 5 numbers a rule and 6 an action, in the order of [`Rule`](crate::Rule) and
-/// [`Action`](crate::Action). Numbers behind the last whole record are not looked at.
+/// [`Action`](crate::Action). Numbers after the last whole record are not looked at.
 #[derive(Debug, Clone, Copy, Default)]
 pub struct Lent<'a> {
     /// The number of the phase.

@@ -241,7 +241,7 @@ pub struct HostAnswer {
 /// What a question to the controls answers: 0 and the value, or a refusal's number.
 #[repr(C)]
 #[derive(Debug, Clone, Copy, Default, PartialEq, Eq)]
-pub struct HostAsked {
+pub struct HostQueryAnswer {
     /// 0 or a refusal's number.
     pub answer: u64,
     /// The value, 0 after a refusal.
@@ -273,7 +273,7 @@ pub struct HostMarker {
 /// What an addition to the controls answers, and the controls after it.
 #[repr(C)]
 #[derive(Debug, Clone, Copy, Default, PartialEq, Eq)]
-pub struct HostChanged {
+pub struct HostChangeAnswer {
     /// 0 or a refusal's number.
     pub answer: u64,
     /// The controls after the addition, as given after a refusal.

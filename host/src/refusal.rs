@@ -1,11 +1,11 @@
-//! Why a call is turned away.
+//! Why a call is refused.
 
 use std::error::Error;
 use std::fmt;
 
 use crate::values::numbered;
 
-/// Why a call is turned away: 01's reasons in their order. The first that applies is given, and after a refused call
+/// Why a call is refused: 01's reasons in their order. The first that applies is given, and after a refused call
 /// everything that was lent is as before.
 #[derive(Debug, Clone, Copy, PartialEq, Eq, Hash)]
 pub enum Refusal {
@@ -47,7 +47,7 @@ const SENTENCES: [&str; 9] = [
     "the transaction counts more than 256 ranges, more than 64 targets, or more entries than a lent list has",
     "the outcomes are not as many as the rules",
     "a record holds an unknown kind, flag or outcome, a number above its limit, a part outside its list or text, \
-     a marker behind the last rule, or a range that starts above its end",
+     a marker after the last rule, or a range that starts above its end",
     "the text has a byte of 80 (hexadecimal) or more",
     "a lent list has too few free entries",
     "held ranges and those of all rules together are more than 256",

@@ -137,7 +137,7 @@ pub struct Builder {
 }
 
 impl Builder {
-    /// Adds a rule behind the others: its id or none, whether it is a link, and its actions.
+    /// Adds a rule after the others: its id or none, whether it is a link, and its actions.
     pub fn rule(&mut self, id: Option<u64>, link: bool, actions: &[Act<'_>]) -> &mut Self {
         self.set.rules.push(Rule {
             present: u64::from(id.is_some()),
@@ -159,7 +159,7 @@ impl Builder {
         self
     }
 
-    /// Adds a marker that stands behind the rules added so far.
+    /// Adds a marker that stands after the rules added so far.
     pub fn marker(&mut self, name: &[u8]) -> &mut Self {
         self.marker_at(name, self.set.rules.len() as u64)
     }

@@ -6,7 +6,7 @@ use crate::intervention::Intervention;
 use crate::limits::MOST_RULES;
 use crate::phase::{Before, Phase};
 use crate::raw::{Lent, Lists};
-use crate::records::{DataRecord, HostChanged, HostTransaction, JournalRecord};
+use crate::records::{DataRecord, HostChangeAnswer, HostTransaction, JournalRecord};
 use crate::ruleset::{Records, RuleSet};
 use crate::values::{Data, Mode, Outcome, Place};
 use crate::Refusal;
@@ -198,7 +198,7 @@ impl Transaction {
         ))
     }
 
-    fn change(&mut self, changed: HostChanged) -> Result<(), Refusal> {
+    fn change(&mut self, changed: HostChangeAnswer) -> Result<(), Refusal> {
         self.record.controls = changed.controls;
         Refusal::unless(changed.answer, ())
     }

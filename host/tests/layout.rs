@@ -8,9 +8,9 @@ use std::mem::{offset_of, size_of};
 
 use tivembo::raw::{self, Lent, Lists};
 use tivembo::{
-    Act, Action, DataRecord, HostAnswer, HostAsked, HostChanged, HostControls, HostIntervention,
-    HostMarker, HostMetadata, HostNumber, HostPlace, HostTarget, HostTransaction, JournalRecord,
-    Marker, Part, Rule, RuleSet, MOST_RANGES, MOST_TARGETS,
+    Act, Action, DataRecord, HostAnswer, HostChangeAnswer, HostControls, HostIntervention,
+    HostMarker, HostMetadata, HostNumber, HostPlace, HostQueryAnswer, HostTarget, HostTransaction,
+    JournalRecord, Marker, Part, Rule, RuleSet, MOST_RANGES, MOST_TARGETS,
 };
 
 /// Sizes and offsets in numbers of 64 bits.
@@ -40,10 +40,10 @@ fn sizes_and_offsets_of_the_lent_records() {
 #[test]
 fn sizes_and_offsets_of_the_answers() {
     words!(HostAnswer, 3, answer 0, error 1, visits 2);
-    words!(HostAsked, 2, answer 0, value 1);
+    words!(HostQueryAnswer, 2, answer 0, value 1);
     words!(HostTarget, 4, answer 0, target 1);
     words!(HostMarker, 3, answer 0, present 1, position 2);
-    words!(HostChanged, 646, answer 0, controls 1);
+    words!(HostChangeAnswer, 646, answer 0, controls 1);
     words!(raw::ReadRecord, 3, answer 0, form 1, value 2);
 }
 

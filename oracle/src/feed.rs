@@ -17,7 +17,7 @@ pub(crate) type Visits = Arc<Mutex<Vec<Visit>>>;
 
 /// A macro, so that `evaluate_rule` has the operator made anew from its
 /// argument. That fails, which is the rule error. The rule's index stands
-/// behind it, and comes back with the error.
+/// after it, and comes back with the error.
 const ERROR_MACRO: &str = "%{error}";
 
 /// The rule set of one call, and where its visits will be found.

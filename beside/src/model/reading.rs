@@ -25,9 +25,9 @@ pub const READINGS: [(&str, Reading, &str); 12] = [
         "a range stops short of its end",
     ),
     (
-        "jump-directly-behind",
+        "jump-directly-after",
         Reading::JumpDirectlyBehind,
-        "skipAfter jumps to a marker directly behind the closing rule (C8)",
+        "skipAfter jumps to a marker directly after the closing rule (C8)",
     ),
     (
         "closing-id-listed",

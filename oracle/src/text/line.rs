@@ -41,8 +41,8 @@ impl<'a> Line<'a> {
         let mut bytes = rest.strip_prefix(b"\"").ok_or("a text begins with \"")?;
         let mut text = Vec::new();
         loop {
-            let (byte, behind) = text_byte(bytes)?;
-            bytes = behind;
+            let (byte, after) = text_byte(bytes)?;
+            bytes = after;
             match byte {
                 Some(byte) => text.push(byte),
                 None => break,
@@ -74,7 +74,7 @@ pub(super) fn number<N: FromStr>(word: &str) -> Result<N, Reason> {
     word.parse().map_err(above)
 }
 
-/// The next byte of a text, none at its closing quote, and what stands behind.
+/// The next byte of a text, none at its closing quote, and what stands after.
 fn text_byte(bytes: &[u8]) -> Result<(Option<u8>, &[u8]), Reason> {
     match bytes {
         [b'"', rest @ ..] => Ok((None, rest)),

@@ -85,7 +85,7 @@ fn print_intervention(out: &mut impl Write, new: &Intervention) -> Result<()> {
     })
 }
 
-/// A line of a word and the entries behind it.
+/// A line of a word and the entries after it.
 fn list<T>(
     out: &mut impl Write,
     word: &str,

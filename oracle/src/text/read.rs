@@ -163,7 +163,7 @@ impl Draft {
         Ok(step)
     }
 
-    /// A marker may come before the rules that it stands behind, so positions
+    /// A marker may come before the rules that it stands after, so positions
     /// are looked at when the call is whole.
     fn check_markers(&self) -> Result<(), ReadError> {
         let Some(call) = self.calls.last() else {

@@ -1,11 +1,11 @@
 //! A rule set of the shape that the OWASP Core Rule Set has in phase 2: 500 rules, 2,300 actions, 40 markers, 100 chains.
 //!
 //! 14 files, each with four paranoia levels. A level begins with a rule that jumps to the file's end marker where the request
-//! is not checked at that level, so that at level 1 each file is left behind its first level. Detection rules have id, msg,
+//! is not checked at that level, so that at level 1 each file is left after its first level. Detection rules have id, msg,
 //! logdata, ver and severity; their block is pass, as under anomaly scoring. Some have the ctl:auditLogParts of the
-//! version 3 rules. A third of them start chains of 2 to 4 rules; the rules behind a starter have no id. Tags, setvar,
+//! version 3 rules. A third of them start chains of 2 to 4 rules; the rules after a starter have no id. Tags, setvar,
 //! transformations and all else without an effect in the phase loop are left out, as a host leaves them out. Every msg is
-//! a text of its own, of some 45 bytes. The markers of the files that have no rule in phase 2 stand behind all rules.
+//! a text of its own, of some 45 bytes. The markers of the files that have no rule in phase 2 stand after all rules.
 
 use beside::case::{outcome, Case};
 use tivembo::{Act, Builder, RuleSet};
@@ -108,7 +108,7 @@ impl Drawn {
         }
     }
 
-    /// The rules behind a chain's starter: seven chains of ten have one, two have two, and one has three.
+    /// The rules after a chain's starter: seven chains of ten have one, two have two, and one has three.
     fn rest_of_chain(&mut self, matches: bool) {
         let rest = match self.chains % 10 {
             0..=6 => 1,

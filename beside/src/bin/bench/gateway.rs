@@ -7,7 +7,7 @@ use tivembo::raw::{run_phase, words, Lent, Lists};
 use tivembo::{HostAnswer, HostTransaction};
 
 /// A call that is made again and again. Before each, the whole record is set back to what it holds at entry, outside the
-/// measured time. The lists stay as they are: a call looks at nothing behind the counts of the record.
+/// measured time. The lists stay as they are: a call looks at nothing after the counts of the record.
 pub struct Gateway<'a> {
     lent: Lent<'a>,
     at_entry: Box<HostTransaction>,
@@ -58,7 +58,7 @@ impl<'a> Gateway<'a> {
             let begin = Instant::now();
             let answer = self.call();
             whole += begin.elapsed();
-            assert_eq!(answer.answer, 0, "a timed call is not turned away");
+            assert_eq!(answer.answer, 0, "a timed call is not refused");
         }
         whole
     }
@@ -67,7 +67,7 @@ impl<'a> Gateway<'a> {
     pub fn results(&mut self) -> Results {
         self.set_back();
         let answer = self.call();
-        assert_eq!(answer.answer, 0, "a timed call is not turned away");
+        assert_eq!(answer.answer, 0, "a timed call is not refused");
         let visits = self.journal.chunks_exact(2).take(answer.visits as usize);
         let entries = self.entries.chunks_exact(4);
         Results {

@@ -125,7 +125,7 @@ fn draw(svg: &mut String, axes: &Axes, line: &Line) {
     }
 }
 
-/// The lines' names behind their last points, pushed down where they would touch.
+/// The lines' names after their last points, pushed down where they would touch.
 fn names(svg: &mut String, axes: &Axes, lines: &[Line]) {
     let last = |line: &Line| line.points.last().map_or(0.0, |point| point.1);
     let mut ends: Vec<(f64, &Line)> = lines.iter().map(|l| (axes.y(last(l)), l)).collect();

@@ -118,7 +118,7 @@ fn print(options: Options, report: &Report) -> bool {
     }
     report.table.print();
     println!(
-        "{:>10}  left out: 01 turns the call away for its ranges or targets",
+        "{:>10}  left out: 01 refuses the call for its ranges or targets",
         report.left_out
     );
     let missing = report.table.missing();

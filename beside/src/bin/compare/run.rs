@@ -82,7 +82,7 @@ fn run_block(options: Options, block: u64) -> Report {
     report
 }
 
-/// Runs a case up to the first difference: what comes behind it has other transactions.
+/// Runs a case up to the first difference: what comes after it has other transactions.
 fn run_case(options: Options, block: u64, case: &Case, left: &mut u64, report: &mut Report) {
     let mut sides = Sides::new(case, options.planted);
     for (at, call) in case.calls.iter().enumerate() {

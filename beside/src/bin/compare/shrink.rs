@@ -3,7 +3,7 @@
 use beside::case::{kind, mode, outcome, Call, Case};
 use tivembo::{Action, Part};
 
-/// The at-th smaller case of one kind, none behind the last.
+/// The at-th smaller case of one kind, none after the last.
 type Edit = fn(&Case, usize) -> Option<Case>;
 
 /// Each makes less of something, so that no two undo each other.

@@ -8,7 +8,7 @@ use crate::question::Question;
 /// 01: "65,536 text bytes", and refusal 6's "byte of 80 (hexadecimal) or more".
 const LONGEST: usize = 65_536;
 
-/// Entries before and behind a lent list that belong to nobody.
+/// Entries before and after a lent list that belong to nobody.
 const GUARD: usize = 3;
 
 /// What a reader answered, and what then stands in and around the two lists.
@@ -146,7 +146,7 @@ fn numbers(question: &Question, directive: &CtlDirective, cut: u64) -> (u64, u64
     }
 }
 
-/// The trimmed texts before and behind the ';' at `cut`.
+/// The trimmed texts before and after the ';' at `cut`.
 pub fn sides(value: &[u8], cut: u64) -> Option<(&str, &str)> {
     let cut = usize::try_from(cut).ok()?;
     if value.get(cut) != Some(&b';') {

@@ -18,7 +18,7 @@ pub const FAULTS: [Fault; 16] = [
     ("blank-part-bad", blank_part_bad),
     ("written-before-it-fits", written_early),
     ("full-list-refused", full_refused),
-    ("entry-behind-cleared", entry_cleared),
+    ("entry-after-cleared", entry_cleared),
     ("cut-at-last", cut_at_last),
     ("vertical-tab-no-blank", vertical_tab),
     ("1c-is-blank", separators_blank),

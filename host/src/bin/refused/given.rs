@@ -8,7 +8,7 @@ use tivembo::{
 /// A phase call: ours, or one that stands in for it.
 pub type PhaseCall = fn(&mut HostTransaction, &Lent<'_>, &mut Lists<'_>) -> HostAnswer;
 
-/// Numbers before and behind a lent list that belong to nobody.
+/// Numbers before and after a lent list that belong to nobody.
 const GUARD: usize = 4;
 
 /// A list of numbers as it is lent, with guards on both sides. All of them differ.
@@ -25,7 +25,7 @@ impl List {
         self.0.len() - 2 * GUARD
     }
 
-    /// Lends only so many numbers; what stood behind them is guard now.
+    /// Lends only so many numbers; what stood after them is guard now.
     pub fn shorten(&mut self, length: usize) {
         self.0.truncate(length + 2 * GUARD);
     }

@@ -8,7 +8,7 @@ use tivembo::{
 use crate::given::{Given, List};
 use crate::random::Random;
 
-/// Directives with their values, one behind the other in every text. Each has two ranges or one target at most.
+/// Directives with their values, one after the other in every text. Each has two ranges or one target at most.
 pub const DIRECTIVES: [(&str, &str); 7] = [
     ("ruleRemoveById", "1-5, 7"),
     ("RULEREMOVEBYID ", "942100"),

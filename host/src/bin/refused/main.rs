@@ -1,7 +1,7 @@
 //! refused [--planted WRONG] [N [SEED]]
 //! refused --wrong
 //!
-//! Makes N calls that must be turned away: each of 01's nine reasons alone and every pair of them, planted in random calls
+//! Makes N calls that must be refused: each of 01's nine reasons alone and every pair of them, planted in random calls
 //! to which none applies. The answer must be the smaller number, and every byte of the transaction, the lists and what
 //! stands around the lists must be as lent. Which number is right comes from what was planted, not from any code of ours.
 //! Then it makes N calls with records that hold anything: they may be answered as they like, but must return, keep
@@ -85,7 +85,7 @@ fn run_refused(options: &Options, random: &mut Random) -> u64 {
     let mut base = legal::legal(random);
     let (mut wrong, mut answers) = (0, [0u64; 11]);
     for (index, plan) in (0..options.count).zip(plans.iter().cycle()) {
-        // A round of all plans begins with a new call, which must not be turned away.
+        // A round of all plans begins with a new call, which must not be refused.
         if index % plans.len() as u64 == 0 {
             base = legal::legal(random);
             let answer = base.clone().call(options.call).answer;

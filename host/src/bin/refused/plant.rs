@@ -77,7 +77,7 @@ fn actions_outside(given: &mut Given, random: &mut Random, at: usize) {
     (given.rules[at].first, given.rules[at].count) = (start, len);
 }
 
-/// A part that ends behind a list of so many.
+/// A part that ends after a list of so many.
 fn outside(random: &mut Random, entries: usize) -> Part {
     let entries = entries as u64;
     let start = random.number(entries + 1);
@@ -98,7 +98,7 @@ fn outside(random: &mut Random, entries: usize) -> Part {
     random.of(&choices)
 }
 
-/// An action that no call may have, behind the others or in the place of one.
+/// An action that no call may have, after the others or in the place of one.
 fn bad_action(given: &mut Given, random: &mut Random) {
     let outside = outside(random, given.text.len());
     let kind = random.of(&[8, 16, 17, 18, 20]);

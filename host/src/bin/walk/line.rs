@@ -35,9 +35,9 @@ impl<'a> Line<'a> {
         let rest = self.rest.take().ok_or("a text is missing at the end")?;
         let mut bytes = rest.strip_prefix(b"\"").ok_or("a text begins with \"")?;
         let mut text = Vec::new();
-        while let (Some(byte), behind) = text_byte(bytes)? {
+        while let (Some(byte), after) = text_byte(bytes)? {
             text.push(byte);
-            bytes = behind;
+            bytes = after;
         }
         self.rest = match bytes {
             [_, b' ', rest @ ..] => Some(rest),
@@ -65,7 +65,7 @@ pub fn number(word: &str) -> Result<u64, Reason> {
     word.parse().map_err(above)
 }
 
-/// The next byte of a text, none at its closing quote, and what stands behind it. The closing quote is left.
+/// The next byte of a text, none at its closing quote, and what stands after it. The closing quote is left.
 fn text_byte(bytes: &[u8]) -> Result<(Option<u8>, &[u8]), Reason> {
     match bytes {
         [b'"', ..] => Ok((None, bytes)),

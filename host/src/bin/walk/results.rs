@@ -100,7 +100,7 @@ pub fn directive(read: &std::result::Result<Directive, Refusal>) -> String {
     }
 }
 
-/// A line of a word and the entries behind it.
+/// A line of a word and the entries after it.
 fn list<T>(
     out: &mut impl Write,
     word: &str,

@@ -30,7 +30,7 @@ pub fn print_call(out: &mut impl Write, walked: &Walked) -> Result<()> {
         }
         Err(refusal) => {
             let number = refusal.number();
-            let line = format!("turned away with {number}, nothing is changed: {refusal}");
+            let line = format!("refused with {number}, nothing is changed: {refusal}");
             print_field(out, "answer", &line)?;
         }
     }
@@ -46,7 +46,7 @@ pub fn print_directive(
 ) -> Result<()> {
     let said = match read {
         Ok(_) => results::directive(read),
-        Err(refusal) => format!("turned away with {}: {refusal}", refusal.number()),
+        Err(refusal) => format!("refused with {}: {refusal}", refusal.number()),
     };
     writeln!(out, "{}  {said}", setting(name, value))
 }

@@ -6,7 +6,7 @@ use crate::results::range;
 use crate::run::Walked;
 use crate::show::plain;
 
-/// A rule's verdict, none where it was passed, and the words behind it.
+/// A rule's verdict, none where it was passed, and the words after it.
 pub struct Seen {
     pub verdict: Option<Verdict>,
     pub words: String,
@@ -52,7 +52,7 @@ struct Story<'a> {
     records: Records<'a>,
     /// The matched links that wait for their closing rule.
     open: Vec<usize>,
-    /// Why the rules behind the last visit are passed.
+    /// Why the rules after the last visit are passed.
     passing: String,
 }
 
@@ -147,7 +147,7 @@ impl Story<'_> {
         }
     }
 
-    /// Where the starter's last flow action goes on, behind the closing rule.
+    /// Where the starter's last flow action goes on, after the closing rule.
     fn flow(&self, starter: usize, closing: usize) -> String {
         match self.last(starter, 7..=10) {
             Some(Act::Skip(count)) => format!("skip {count} at {closing}"),
@@ -157,16 +157,16 @@ impl Story<'_> {
     }
 
     fn jump(&self, name: &[u8], closing: usize) -> String {
-        let behind = closing as u64 + 1;
+        let after = closing as u64 + 1;
         let markers = self.walked.call.markers.iter().rev();
         let name_of = plain(name);
         match markers.into_iter().find(|marker| marker.0 == name) {
             None => format!("no marker {name_of}: the rest is passed"),
-            Some((_, position)) if *position > behind => {
+            Some((_, position)) if *position > after => {
                 format!("jump to marker {name_of} at {position}")
             }
             Some((_, position)) => {
-                format!("no usable marker: {name_of} at {position} is not greater than {behind}")
+                format!("no usable marker: {name_of} at {position} is not greater than {after}")
             }
         }
     }

@@ -1,4 +1,4 @@
-//! Skips and jumps of the units behind which the walk went on.
+//! Skips and jumps of the units after which the walk went on.
 
 use beside::case::kind;
 
@@ -36,7 +36,7 @@ fn is_evaluated(seen: &Seen, index: usize) -> bool {
     visits.any(|visit| visit.0 as usize == index)
 }
 
-/// Whether a rule stands behind a link.
+/// Whether a rule stands after a link.
 fn is_within_chain(seen: &Seen, index: usize) -> bool {
     index > 0 && seen.call.is_link(index - 1)
 }

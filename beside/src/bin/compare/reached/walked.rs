@@ -13,7 +13,7 @@ pub struct Unit {
     pub mode_before: u64,
     /// The mode in force after its controls.
     pub mode_after: u64,
-    /// Whether the walk went on behind it.
+    /// Whether the walk went on after it.
     pub went_on: bool,
 }
 
