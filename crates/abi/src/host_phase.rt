@@ -16,6 +16,7 @@ use transaction::run_phase;
 use transaction::types::Answer;
 use transaction::types::Transaction;
 ghost use mathlib.Core.Path.{_≡_};
+ghost use Prim.Native.Nat.{_/_};
 ghost use lib.ListN.{take};
 ghost use Rattle.reading.specs.Call.{Call};
 ghost use Rattle.refusals.specs.FirstRefusal.{Counted};
@@ -102,6 +103,19 @@ fn lent_words(words: &[u64; marker_words::NUMBERS], count: usize) -> &[u64]
     &all[..n]
 }
 
+// How many records lists of so many numbers have, with the bytes of the text and the outcomes.
+fn counts_of(rules: usize, actions: usize, words: usize, bytes: usize, outcomes: usize) -> Counts
+    ensures { λ r. ⌜ r ≡ record { rules = rules / 5; actions = actions / 6; markers = words / 3; bytes = bytes; outcomes = outcomes } ⌝ }
+{
+    Counts {
+        rules: rules / widths::RULE,
+        actions: actions / widths::ACTION,
+        markers: words / widths::MARKER,
+        bytes,
+        outcomes,
+    }
+}
+
 // What the record counts, and how many entries lists of so many numbers have.
 fn sizes_of(h: HostTransaction, ids: usize, entries: usize, journal: usize) -> Sizes
     ensures { λ r. ⌜ r ≡ sizesOf h ids entries journal ⌝ }
@@ -128,6 +142,21 @@ fn unknown_answer(phase: u64, mode: u64, counts: Counts, sizes: Sizes) -> u64
     early
 }
 
+// An answer that leaves the record as it was.
+fn as_lent(answer: u64, h: HostTransaction) -> HostPhase
+    ensures { λ r. ⌜ r ≡ record { answer = record { answer = answer; error = 0; visits = 0 }; transaction = h } ⌝ }
+{
+    let answer = Answer {
+        answer,
+        error: 0,
+        visits: 0,
+    };
+    HostPhase {
+        answer,
+        transaction: h,
+    }
+}
+
 // The phase call. Known numbers are read and written back as they were, but for an intervention that is absent: what else its
 // record holds is lost. So without a visit the intervention is put back as lent, and with it the whole record is. The record isn't
 // kept whole for that: a copy of it costs as much as twenty rules.
@@ -150,23 +179,15 @@ pub fn host_phase(
 {
     let words = lent_words(&markers.words, markers.count);
     if !is_known(h) {
-        let counts = Counts {
-            rules: rules.len() / widths::RULE,
-            actions: actions.len() / widths::ACTION,
-            markers: words.len() / widths::MARKER,
-            bytes: text.len(),
-            outcomes: outcomes.len(),
-        };
+        let counts = counts_of(
+            rules.len(),
+            actions.len(),
+            words.len(),
+            text.len(),
+            outcomes.len(),
+        );
         let sizes = sizes_of(h, ids.len(), entries.len(), journal.len());
-        let answer = Answer {
-            answer: unknown_answer(phase, mode, counts, sizes),
-            error: 0,
-            visits: 0,
-        };
-        return HostPhase {
-            answer,
-            transaction: h,
-        };
+        return as_lent(unknown_answer(phase, mode, counts, sizes), h);
     }
     let t = from_host(h);
     let p = run_phase::run_phase(

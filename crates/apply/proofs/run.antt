@@ -1,5 +1,4 @@
 pub mod StepLaws
-pub mod LentLaws
 pub mod RuleLaws
 pub mod UnitLaws
 pub mod Fits

@@ -7,7 +7,14 @@ use ctl::range_count::RangeCount;
 use reading::Place;
 use reading::limits;
 use text::trim;
-ghost use Rattle.apply.specs.Append.{Long, Kept, TargetAdded, RangesAdded};
+ghost use Prim.Native.Nat.{_+_, _≤_};
+ghost use mathlib.Core.Path.{_≡_};
+ghost use mathlib.Core.List.{map};
+ghost use lib.ListN.{length};
+ghost use lib.Seq.{sets};
+ghost use Rattle.reading.specs.Text.{idParts, rangesIn};
+ghost use Rattle.reading.specs.Directive.{startOf, endOf};
+ghost use Rattle.apply.specs.Append.{TargetAdded, RangesAdded};
 
 // What of the controls is passed by value: their settings, and how many places of their arrays are in use. The four arrays
 // are lent beside it, so that nothing of them is copied.
@@ -18,13 +25,12 @@ pub struct ControlCounts {
 }
 
 // One target at the end, where no limit refuses it.
-fn put_target(
+pub fn add_target(
     h: ControlCounts,
     at: Place,
-    phases: &mut [u64],
-    positions: &mut [u64],
+    phases: &mut [u64; limits::TARGETS],
+    positions: &mut [u64; limits::TARGETS],
 ) -> ControlCounts
-    requires { ⌜ Long 64 (now phases) (now positions) ⌝ }
     ensures { λ r. ⌜ TargetAdded h at (now (phases .entry)) (now (positions .entry)) r (now (phases .exit)) (now (positions .exit)) ⌝ }
 {
     let n = h.targets;
@@ -34,8 +40,11 @@ fn put_target(
     if limits::TARGETS <= n {
         return h;
     }
-    phases[n] = at.phase;
-    positions[n] = at.position;
+    // written as slices: the proof is told an array's length only where it becomes one
+    let phase_list = &mut phases[..];
+    let position_list = &mut positions[..];
+    phase_list[n] = at.phase;
+    position_list[n] = at.position;
     let settings = h.settings;
     let ranges = h.ranges;
     ControlCounts {
@@ -45,30 +54,23 @@ fn put_target(
     }
 }
 
-// The same of lists of any length: those of another length than the arrays of the controls are left as they are.
-pub fn add_target(
-    h: ControlCounts,
-    at: Place,
-    phases: &mut [u64],
-    positions: &mut [u64],
-) -> ControlCounts
-    ensures { λ r. ⌜ (Long 64 (now (phases .entry)) (now (positions .entry))
-        → TargetAdded h at (now (phases .entry)) (now (positions .entry)) r (now (phases .exit)) (now (positions .exit))) ⌝ }
-    ensures { λ r. ⌜ ((Long 64 (now (phases .entry)) (now (positions .entry)) → ⊥)
-        → Kept h (now (phases .entry)) (now (positions .entry)) r (now (phases .exit)) (now (positions .exit))) ⌝ }
+// Writes a list's ranges after so many places, where there is room for all. A function of its own, because a part can be lent of
+// a slice, and not of an array that is itself lent.
+fn write_after(value: &[u8], used: usize, starts: &mut [u64], ends: &mut [u64])
+    requires { ⌜ (length (now ends) ≡ length (now starts)) × (used + length (rangesIn (idParts (now value))) ≤ length (now starts)) ⌝ }
+    ensures { λ _. ⌜ now (starts .exit) ≡ sets (now (starts .entry)) used (map startOf (rangesIn (idParts (now (value .entry))))) ⌝ }
+    ensures { λ _. ⌜ now (ends .exit) ≡ sets (now (ends .entry)) used (map endOf (rangesIn (idParts (now (value .entry))))) ⌝ }
 {
-    if phases.len() != limits::TARGETS {
-        return h;
-    }
-    if positions.len() != limits::TARGETS {
-        return h;
-    }
-    put_target(h, at, phases, positions)
+    id_ranges::write_ranges(value, &mut starts[used..], &mut ends[used..]);
 }
 
 // The ranges of a value at the end, all or none.
-fn put_ranges(h: ControlCounts, value: &[u8], starts: &mut [u64], ends: &mut [u64]) -> ControlCounts
-    requires { ⌜ Long 256 (now starts) (now ends) ⌝ }
+pub fn add_ranges(
+    h: ControlCounts,
+    value: &[u8],
+    starts: &mut [u64; limits::RANGES],
+    ends: &mut [u64; limits::RANGES],
+) -> ControlCounts
     ensures { λ r. ⌜ RangesAdded h (now (value .entry)) (now (starts .entry)) (now (ends .entry)) r (now (starts .exit)) (now (ends .exit)) ⌝ }
 {
     let used = h.ranges;
@@ -82,7 +84,7 @@ fn put_ranges(h: ControlCounts, value: &[u8], starts: &mut [u64], ends: &mut [u6
     if limits::RANGES - used < n {
         return h;
     }
-    id_ranges::write_ranges(v, &mut starts[used..], &mut ends[used..]);
+    write_after(v, used, starts, ends);
     let settings = h.settings;
     let targets = h.targets;
     ControlCounts {
@@ -90,25 +92,4 @@ fn put_ranges(h: ControlCounts, value: &[u8], starts: &mut [u64], ends: &mut [u6
         ranges: used + n,
         targets,
     }
-}
-
-// The same of lists of any length: those of another length than the arrays of the controls are left as they are.
-pub fn add_ranges(
-    h: ControlCounts,
-    value: &[u8],
-    starts: &mut [u64],
-    ends: &mut [u64],
-) -> ControlCounts
-    ensures { λ r. ⌜ (Long 256 (now (starts .entry)) (now (ends .entry))
-        → RangesAdded h (now (value .entry)) (now (starts .entry)) (now (ends .entry)) r (now (starts .exit)) (now (ends .exit))) ⌝ }
-    ensures { λ r. ⌜ ((Long 256 (now (starts .entry)) (now (ends .entry)) → ⊥)
-        → Kept h (now (starts .entry)) (now (ends .entry)) r (now (starts .exit)) (now (ends .exit))) ⌝ }
-{
-    if starts.len() != limits::RANGES {
-        return h;
-    }
-    if ends.len() != limits::RANGES {
-        return h;
-    }
-    put_ranges(h, value, starts, ends)
 }

@@ -21,7 +21,7 @@ ghost use Rattle.reading.specs.Records.{ruleList, actionList, journalList, matc
 ghost use Rattle.control.specs.ControlsStruct.{controlsOf};
 ghost use Rattle.apply.specs.Append.{structOf};
 ghost use Rattle.apply.specs.UnitCodes.{appliedCode, ruleByCodes, unitByCodes};
-ghost use Rattle.apply.specs.ApplyUnit.{Whole, Turned, Left};
+ghost use Rattle.apply.specs.ApplyUnit.{Turned};
 
 // The controls after the action at an index, by its code: up to 9 a setting, 10 the place as a target, all others the ranges
 // of the value, which is read only here.
@@ -32,12 +32,11 @@ fn apply(
     actions: &[u64],
     text: &[u8],
     phase: u64,
-    starts: &mut [u64],
-    ends: &mut [u64],
-    phases: &mut [u64],
-    positions: &mut [u64],
+    starts: &mut [u64; limits::RANGES],
+    ends: &mut [u64; limits::RANGES],
+    phases: &mut [u64; limits::TARGETS],
+    positions: &mut [u64; limits::TARGETS],
 ) -> ControlCounts
-    requires { ⌜ Whole (now starts) (now ends) (now phases) (now positions) ⌝ }
     ensures { λ r. ⌜ Turned h (now (starts .entry)) (now (ends .entry)) (now (phases .entry)) (now (positions .entry))
         r (now (starts .exit)) (now (ends .exit)) (now (phases .exit)) (now (positions .exit))
         (appliedCode (record { phase = phase; position = i })
@@ -74,12 +73,11 @@ fn rule_controls(
     text: &[u8],
     codes: &[u16],
     phase: u64,
-    starts: &mut [u64],
-    ends: &mut [u64],
-    phases: &mut [u64],
-    positions: &mut [u64],
+    starts: &mut [u64; limits::RANGES],
+    ends: &mut [u64; limits::RANGES],
+    phases: &mut [u64; limits::TARGETS],
+    positions: &mut [u64; limits::TARGETS],
 ) -> ControlCounts
-    requires { ⌜ Whole (now starts) (now ends) (now phases) (now positions) ⌝ }
     ensures { λ r. ⌜ Turned h (now (starts .entry)) (now (ends .entry)) (now (phases .entry)) (now (positions .entry))
         r (now (starts .exit)) (now (ends .exit)) (now (phases .exit)) (now (positions .exit))
         (ruleByCodes (record { phase = phase; text = now (text .entry); actions = actionList (now (actions .entry)) }) (now (codes .entry)) rule
@@ -118,12 +116,11 @@ fn entry_controls(
     text: &[u8],
     codes: &[u16],
     phase: u64,
-    starts: &mut [u64],
-    ends: &mut [u64],
-    phases: &mut [u64],
-    positions: &mut [u64],
+    starts: &mut [u64; limits::RANGES],
+    ends: &mut [u64; limits::RANGES],
+    phases: &mut [u64; limits::TARGETS],
+    positions: &mut [u64; limits::TARGETS],
 ) -> ControlCounts
-    requires { ⌜ Whole (now starts) (now ends) (now phases) (now positions) ⌝ }
     ensures { λ r. ⌜ Turned h (now (starts .entry)) (now (ends .entry)) (now (phases .entry)) (now (positions .entry))
         r (now (starts .exit)) (now (ends .exit)) (now (phases .exit)) (now (positions .exit))
         (unitByCodes (record { phase = phase; text = now (text .entry); actions = actionList (now (actions .entry)) }) (now (codes .entry))
@@ -157,12 +154,11 @@ fn members_controls(
     text: &[u8],
     codes: &[u16],
     phase: u64,
-    starts: &mut [u64],
-    ends: &mut [u64],
-    phases: &mut [u64],
-    positions: &mut [u64],
+    starts: &mut [u64; limits::RANGES],
+    ends: &mut [u64; limits::RANGES],
+    phases: &mut [u64; limits::TARGETS],
+    positions: &mut [u64; limits::TARGETS],
 ) -> ControlCounts
-    requires { ⌜ Whole (now starts) (now ends) (now phases) (now positions) ⌝ }
     ensures { λ r. ⌜ Turned h (now (starts .entry)) (now (ends .entry)) (now (phases .entry)) (now (positions .entry))
         r (now (starts .exit)) (now (ends .exit)) (now (phases .exit)) (now (positions .exit))
         (unitByCodes (record { phase = phase; text = now (text .entry); actions = actionList (now (actions .entry)) }) (now (codes .entry))
@@ -194,8 +190,7 @@ fn members_controls(
     r
 }
 
-// The controls after a closed unit. Where no action of the unit changes them, as for most, no more than that is looked at. Lists
-// of other lengths than the arrays of the controls are left as they are.
+// The controls after a closed unit. Where no action of the unit changes them, as for most, no more than that is looked at.
 pub fn unit_controls(
     h: ControlCounts,
     entries: &[u64],
@@ -204,34 +199,18 @@ pub fn unit_controls(
     text: &[u8],
     codes: &[u16],
     phase: u64,
-    starts: &mut [u64],
-    ends: &mut [u64],
-    phases: &mut [u64],
-    positions: &mut [u64],
+    starts: &mut [u64; limits::RANGES],
+    ends: &mut [u64; limits::RANGES],
+    phases: &mut [u64; limits::TARGETS],
+    positions: &mut [u64; limits::TARGETS],
 ) -> ControlCounts
-    ensures { λ r. ⌜ (Whole (now (starts .entry)) (now (ends .entry)) (now (phases .entry)) (now (positions .entry))
-        → Turned h (now (starts .entry)) (now (ends .entry)) (now (phases .entry)) (now (positions .entry))
+    ensures { λ r. ⌜ Turned h (now (starts .entry)) (now (ends .entry)) (now (phases .entry)) (now (positions .entry))
         r (now (starts .exit)) (now (ends .exit)) (now (phases .exit)) (now (positions .exit))
         (unitByCodes (record { phase = phase; text = now (text .entry); actions = actionList (now (actions .entry)) }) (now (codes .entry))
         (ruleList (now (rules .entry))) (matchedIn (journalList (now (entries .entry))))
-        (controlsOf (structOf h (now (starts .entry)) (now (ends .entry)) (now (phases .entry)) (now (positions .entry)))))) ⌝ }
-    ensures { λ r. ⌜ ((Whole (now (starts .entry)) (now (ends .entry)) (now (phases .entry)) (now (positions .entry)) → ⊥)
-        → Left h (now (starts .entry)) (now (ends .entry)) (now (phases .entry)) (now (positions .entry))
-        r (now (starts .exit)) (now (ends .exit)) (now (phases .exit)) (now (positions .exit))) ⌝ }
+        (controlsOf (structOf h (now (starts .entry)) (now (ends .entry)) (now (phases .entry)) (now (positions .entry))))) ⌝ }
 {
     if !changes::changes(entries, rules, codes) {
-        return h;
-    }
-    if starts.len() != limits::RANGES {
-        return h;
-    }
-    if ends.len() != limits::RANGES {
-        return h;
-    }
-    if phases.len() != limits::TARGETS {
-        return h;
-    }
-    if positions.len() != limits::TARGETS {
         return h;
     }
     members_controls(

@@ -775,7 +775,7 @@ module _ (turn : Turning) where
           became-unit =
               subst (Became c c₁) (coded-now closes)
               (subst (λ (y : Controls). Became y c₁ (unitByCodes (sourceOf q) codes (q .rules) part (controlsOf y))) (sym c-is)
-              (x .turned .became))
+              (x .turned))
 
           abbrev mode : RuleEngineMode
           mode = modeUnder q (controlsOf c₁)

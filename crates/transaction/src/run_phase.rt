@@ -13,6 +13,7 @@ use refusals::first;
 use refusals::first::Sizes;
 use refusals::totals;
 ghost use mathlib.Core.Path.{_≡_};
+ghost use Prim.Native.Nat.{_/_};
 ghost use Rattle.transaction.specs.RunPhase.{callOf, Ran};
 
 // An answer that leaves the transaction as it was.
@@ -27,6 +28,29 @@ fn as_lent(answer: u64, t: Transaction) -> Phase
     Phase {
         answer,
         transaction: t,
+    }
+}
+
+// What the transaction counts, and how many entries lists of so many numbers have.
+fn sizes_of(t: Transaction, ids: usize, entries: usize, journal: usize) -> Sizes
+    ensures { λ r. ⌜ r ≡ record {
+      ranges = t .controls .ranges;
+      targets = t .controls .targets;
+      «ids_used» = t .ids;
+      «entries_used» = t .entries;
+      ids = ids;
+      entries = entries / 4;
+      journal = journal / 2;
+    } ⌝ }
+{
+    Sizes {
+        ranges: t.controls.ranges,
+        targets: t.controls.targets,
+        ids_used: t.ids,
+        entries_used: t.entries,
+        ids,
+        entries: entries / widths::DATA_ENTRY,
+        journal: journal / widths::JOURNAL_ENTRY,
     }
 }
 
@@ -51,15 +75,7 @@ pub fn run_phase(
 {
     let ranges = t.controls.ranges;
     let targets = t.controls.targets;
-    let sizes = Sizes {
-        ranges,
-        targets,
-        ids_used: t.ids,
-        entries_used: t.entries,
-        ids: ids.len(),
-        entries: entries.len() / widths::DATA_ENTRY,
-        journal: journal.len() / widths::JOURNAL_ENTRY,
-    };
+    let sizes = sizes_of(t, ids.len(), entries.len(), journal.len());
     let refusal = first::first_refusal(phase, mode, rules, actions, markers, text, outcomes, sizes);
     if refusal != 0 {
         return as_lent(refusal, t);
@@ -72,14 +88,10 @@ pub fn run_phase(
         return as_lent(limit, t);
     }
     let settings = t.controls.settings;
-    let held = t.intervention;
-    if outcome::is_idle(
-        t.allowed,
-        held,
-        fields::mode_of_number(mode),
-        settings,
-        rules.len() / widths::RULE,
-    ) {
+    let stop = t.intervention;
+    let ruleset_mode = fields::mode_of_number(mode);
+    let n = rules.len() / widths::RULE;
+    if outcome::is_idle(t.allowed, stop, ruleset_mode, settings, n) {
         return as_lent(0, t);
     }
     let call = CallSettings {

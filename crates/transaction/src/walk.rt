@@ -32,7 +32,6 @@ ghost use Rattle.reading.specs.Records.{ruleList, journalList, matchedIn};
 ghost use Rattle.reading.specs.Walk.{verdictBy};
 ghost use Rattle.reading.specs.Outcome.{atFreeEnd};
 ghost use Rattle.unit.specs.MemberList.{Rest, callWith};
-ghost use Rattle.apply.specs.ApplyUnit.{Whole};
 ghost use Rattle.unit.specs.VisitRule.{foundAt};
 ghost use Rattle.transaction.specs.RunPhase.{callOf};
 ghost use Rattle.transaction.specs.WalkRules.{fresh, Ready, Walked, startOf, Room, leftUnder, UnitClosed};
@@ -124,12 +123,12 @@ fn finish_unit(
     ids: &mut [u64],
     entries: &mut [u64],
     journal: &[u64],
-    starts: &mut [u64],
-    ends: &mut [u64],
-    phases: &mut [u64],
-    positions: &mut [u64],
+    starts: &mut [u64; limits::RANGES],
+    ends: &mut [u64; limits::RANGES],
+    phases: &mut [u64; limits::TARGETS],
+    positions: &mut [u64; limits::TARGETS],
 ) -> AfterUnit
-    requires { ⌜ Room at (now ids) (now entries) (now journal) × Whole (now starts) (now ends) (now phases) (now positions) ⌝ }
+    requires { ⌜ Room at (now ids) (now entries) (now journal) ⌝ }
     ensures { λ r. ⌜ ((rest : Rest) → rest .mode ≡ call .mode → rest .status ≡ call .status
         → UnitClosed (callWith (call .phase) (now (rules .entry)) (now (actions .entry)) (now (markers .entry)) (now (text .entry)) (now (outcomes .entry)) rest)
         (now (codes .entry)) at (now (ids .entry)) (now (entries .entry)) (now (journal .entry)) (now (starts .entry)) (now (ends .entry)) (now (phases .entry)) (now (positions .entry))

@@ -99,12 +99,14 @@ module _ (phase mode status : ℕ) (rules actions words text outcomes : List ℕ
     }))
 
     -- k is what `unknown_answer` gave
-    pub ran-unknown : (k : ℕ) (sizes : Sizes) → sizes ≡ sizesOf h (length ids) (length entries) (length journal)
-        → known h ≡ false → ((q : Call) → Counted q phase mode counts sizes → k ≡ unknownAnswer q)
+    pub ran-unknown : (k : ℕ) (given : Counts) (sizes : Sizes) → given ≡ counts → sizes ≡ sizesOf h (length ids) (length entries) (length journal)
+        → known h ≡ false → ((q : Call) → Counted q phase mode given sizes → k ≡ unknownAnswer q)
         → HostRan h lentCall ids entries journal (record { answer = k; error = 0; visits = 0 }) h ids entries journal
-    ran-unknown k sizes are unknown answers =
+    ran-unknown k given sizes same are unknown answers =
         let e : k ≡ unknownAnswer lentCall =
-        answers lentCall (subst (λ (z : Sizes). Counted lentCall phase mode counts z) (sym are) lent-counted) in
+        answers lentCall
+        (subst (λ (y : Counts). Counted lentCall phase mode y sizes) (sym same)
+        (subst (λ (z : Sizes). Counted lentCall phase mode counts z) (sym are) lent-counted)) in
         record {
           ran = λ y. absurd (not-both (known h) y unknown);
           record-is = λ y. absurd (not-both (known h) y unknown);

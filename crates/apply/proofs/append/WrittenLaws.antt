@@ -16,20 +16,23 @@ use Rattle.ctl.specs.declared.range_count.RangeCount.{RangeCount}
 use Rattle.ctl.specs.CountRanges.{countIn}
 use Rattle.ctl.specs.WriteRanges.{allFitting, Written}
 
--- an array of that size whose part after n was lent and came back as ys
-abbrev pub handed : List ℕ → ℕ → ℕ → List ℕ → List ℕ
-handed l n size ys = take n l ++ (ys ++ drop (size - n) (drop n l))
+-- an array whose part after n was lent and came back as ys
+abbrev handed : List ℕ → ℕ → List ℕ → List ℕ
+handed l n ys = take n l ++ (ys ++ drop (length l - n) (drop n l))
 
-module _ (l : List ℕ) (n size : ℕ) (sized : length l ≡ size) where
-  lent-length : length (take (size - n) (drop n l)) ≡ size - n
-  lent-length = simp (length-take, length-drop) (omega arith)
+-- that part, as it was lent
+abbrev lent : List ℕ → ℕ → List ℕ
+lent l n = take (length l - n) (drop n l)
 
-  handed-over : (new ys : List ℕ) → n + length new ≤ size → ys ≡ over (take (size - n) (drop n l)) new → handed l n size ys ≡ sets l n new
-  handed-over new ys h e =
-      let d : length (drop n l) ≤ size - n = simp length-drop (omega arith) in
-      let all = take-all (size - n) (drop n l) d in
-      let none = drop-of-length-le (drop n l) d in
-      rw (e, all, none, append-nil, drop-drop, ← append-assoc) (sym (sets-eq new l n (omega arith)))
+lent-length : (l : List ℕ) (n : ℕ) → length (lent l n) ≡ length l - n
+lent-length l n = simp (length-take, length-drop) (omega arith)
+
+handed-over : (l : List ℕ) (n : ℕ) (new ys : List ℕ) → n + length new ≤ length l → ys ≡ over (lent l n) new → handed l n ys ≡ sets l n new
+handed-over l n new ys h e =
+    let d : length (drop n l) ≤ length l - n = simp length-drop (omega arith) in
+    let all = take-all (length l - n) (drop n l) d in
+    let none = drop-of-length-le (drop n l) d in
+    rw (e, all, none, append-nil, drop-drop, ← append-assoc) (sym (sets-eq new l n (omega arith)))
 
 -- a removal's ranges by what `count_ranges` gives; v is the value, trimmed
 module _ (v value : List ℕ) (is : v ≡ value) where
@@ -52,22 +55,24 @@ module _ (v value : List ℕ) (is : v ≡ value) where
       go false d = (refl, cc)
 
 -- two arrays whose parts after n `write_ranges` was lent, with room for all ranges
-module _ (v starts ends : List ℕ) (n size : ℕ) (ls : length starts ≡ size) (le : length ends ≡ size)
-    (new : List RuleIdRange) (is : new ≡ rangesIn (idParts v)) (h : n + length new ≤ size) (s e : List ℕ) where
-  fit : allFitting v (take (size - n) (drop n starts)) (take (size - n) (drop n ends)) ≡ new
+module _ (v starts ends : List ℕ) (n : ℕ) (same : length ends ≡ length starts)
+    (h : n + length (rangesIn (idParts v)) ≤ length starts) (s e : List ℕ) where
+  abbrev new : List RuleIdRange
+  new = rangesIn (idParts v)
+
+  fit : allFitting v (lent starts n) (lent ends n) ≡ new
   unfolding allFitting
   fit =
-      rw (lent-length starts n size ls, lent-length ends n size le, ← is)
-      (take-all (min (size - n) (size - n)) new (omega arith))
+      rw (lent-length starts n, lent-length ends n)
+      (take-all (min (length starts - n) (length ends - n)) new (omega arith))
 
-  pub written-past : Written v (take (size - n) (drop n starts)) (take (size - n) (drop n ends)) s e
-      → (handed starts n size s ≡ sets starts n (map startOf new)) × (handed ends n size e ≡ sets ends n (map endOf new))
-  written-past w =
-      (one startOf starts s ls (w .starts-are), one endOf ends e le (w .ends-are))
+  pub written-after : Written v (lent starts n) (lent ends n) s e
+      → (handed starts n s ≡ sets starts n (map startOf new)) × (handed ends n e ≡ sets ends n (map endOf new))
+  written-after w =
+      (one startOf starts s (omega arith) (w .starts-are), one endOf ends e (omega arith) (w .ends-are))
     where
-      one : (read : RuleIdRange → ℕ) (l ys : List ℕ) → length l ≡ size
-          → ys ≡ over (take (size - n) (drop n l)) (map read (allFitting v (take (size - n) (drop n starts)) (take (size - n) (drop n ends))))
-          → handed l n size ys ≡ sets l n (map read new)
-      one read l ys sized w =
-          handed-over l n size sized (map read new) ys (simp length-map (omega arith))
-          (w ∙ ap (λ (rs : List RuleIdRange). over (take (size - n) (drop n l)) (map read rs)) fit)
+      one : (read : RuleIdRange → ℕ) (l ys : List ℕ) → n + length new ≤ length l
+          → ys ≡ over (lent l n) (map read (allFitting v (lent starts n) (lent ends n))) → handed l n ys ≡ sets l n (map read new)
+      one read l ys room w =
+          handed-over l n (map read new) ys (simp length-map room)
+          (w ∙ ap (λ (rs : List RuleIdRange). over (lent l n) (map read rs)) fit)

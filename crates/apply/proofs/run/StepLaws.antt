@@ -24,7 +24,7 @@ use Rattle.apply.specs.SettingCodes.{modeSet, accessSet, processorSet, s
 use Rattle.apply.specs.declared.append.ControlCounts.{ControlCounts}
 use Rattle.apply.specs.UnitCodes.{settingByCode, appliedCode}
 use Rattle.apply.specs.Append.{structOf, TargetAdded, RangesAdded}
-use Rattle.apply.specs.ApplyUnit.{Whole, Turned}
+use Rattle.apply.specs.ApplyUnit.{Turned}
 
 -- the first of two controls has no more ranges and no more targets than the second
 pub record Grown (a b : Controls) : Type 0 where
@@ -141,8 +141,7 @@ unfolding controlsOf
 settings-same c = refl
 
 -- what a code leaves, by what it adds
-module _ (h : ControlCounts) (starts ends phases positions : List ℕ) (at : Place) (value : List ℕ) (code : ℕ)
-    (whole : Whole starts ends phases positions) where
+module _ (h : ControlCounts) (starts ends phases positions : List ℕ) (at : Place) (value : List ℕ) (code : ℕ) where
   abbrev c : held.Controls
   c = structOf h starts ends phases positions
 
@@ -150,11 +149,7 @@ module _ (h : ControlCounts) (starts ends phases positions : List ℕ) (at : Pla
       → Turned h starts ends phases positions (record { settings = s; ranges = h .ranges; targets = h .targets }) starts ends
       phases positions (appliedCode at value code (controlsOf c))
   unfolding controlsOf
-  turned-set s l e =
-      record {
-        whole = whole;
-        became = record { meaning = means; starts = refl; ends = refl; phases = refl; positions = refl };
-      }
+  turned-set s l e = record { meaning = means; starts = refl; ends = refl; phases = refl; positions = refl }
     where
       means : controlsOf (structOf (record { settings = s; ranges = h .ranges; targets = h .targets }) starts ends phases
           positions)
@@ -168,30 +163,10 @@ module _ (h : ControlCounts) (starts ends phases positions : List ℕ) (at : Pla
       positions′
       → Turned h starts ends phases positions r starts ends phases′ positions′ (appliedCode at value code (controlsOf c))
   unfolding appliedCode
-  turned-target r phases′ positions′ e a =
-      rw (lt-leb code 9 (omega arith), eq-eqb code 10 e)
-      (record {
-        whole = record {
-          starts-256 = whole .starts-256;
-          ends-256 = whole .ends-256;
-          phases-64 = a .phases-64;
-          positions-64 = a .positions-64;
-        };
-        became = a .became starts ends;
-      })
+  turned-target r phases′ positions′ e a = rw (lt-leb code 9 (omega arith), eq-eqb code 10 e) (a starts ends)
 
   pub turned-ranges : (v : List ℕ) (r : ControlCounts) (starts′ ends′ : List ℕ) → 9 < code → (code ≡ 10 → ⊥) → v ≡ value
       → RangesAdded h v starts ends r starts′ ends′
       → Turned h starts ends phases positions r starts′ ends′ phases positions (appliedCode at value code (controlsOf c))
   unfolding appliedCode
-  turned-ranges v r starts′ ends′ l n e a =
-      rw (lt-leb code 9 l, ne-eqb code 10 n, ← e)
-      (record {
-        whole = record {
-          starts-256 = a .starts-256;
-          ends-256 = a .ends-256;
-          phases-64 = whole .phases-64;
-          positions-64 = whole .positions-64;
-        };
-        became = a .became phases positions;
-      })
+  turned-ranges v r starts′ ends′ l n e a = rw (lt-leb code 9 l, ne-eqb code 10 n, ← e) (a phases positions)

@@ -8,6 +8,7 @@ use denote.Ref.{now}
 use Rattle.reading.specs.Call.{Call}
 use Rattle.control.proofs.Determined.{SameSizes}
 use Rattle.abi.specs.HostControls.{controlsFromHost}
+use Rattle.abi.specs.declared.host_phase.HostPhase.{HostPhase}
 use Rattle.transaction.specs.declared.types.Transaction.{Transaction}
 use Rattle.transaction.specs.RunPhase.{callOf, Ran}
 use borrow.Author.Needs.{needs}
@@ -77,24 +78,43 @@ lent-words-requires c κs = search needs
 is-known-requires : tie.Need-is-known-requires
 is-known-requires c κs = search needs
 
+counts-of-requires : tie.Need-counts-of-requires
+counts-of-requires c κs = search needs
+
 sizes-of-requires : tie.Need-sizes-of-requires
 sizes-of-requires c κs = search needs
 
 unknown-answer-requires : tie.Need-unknown-answer-requires
 unknown-answer-requires c κs = search needs
 
+as-lent-requires : tie.Need-as-lent-requires
+as-lent-requires c κs = search needs
+
+-- what a record with an unknown number is answered with, of the markers that are lent on
+abbrev Unknown : tie.After-unknown-answer → HostPhase → List ℕ → Type 0
+Unknown c r words =
+    let s = begun (c .before .before .before .before .before) in
+    let a = s .args in
+    HostRan (a .h) (callAt s words (fromHost (a .h))) (now (a .ids)) (now (a .entries)) (now (a .journal))
+    (r .answer) (r .transaction) (now (a .ids)) (now (a .entries)) (now (a .journal))
+
+unknown : (c : tie.After-unknown-answer) → Unknown c
+    (record { answer = record { answer = c .unknown-answer .result; error = 0; visits = 0 }; transaction = begun (c .before .before .before .before .before) .args .h })
+    (now (c .before .before .before .before .before .lent-words .result))
+unknown c =
+    let k = c .before .before .before .before in
+    let a = begun (k .before) .args in
+    ran-unknown (a .phase) (a .mode) (a .status) (now (a .rules)) (now (a .actions)) (now (k .before .lent-words .result)) (now (a .text))
+    (now (a .outcomes)) (a .h) (now (a .ids)) (now (a .entries)) (now (a .journal))
+    (c .unknown-answer .result) (c .before .before .counts-of .result) (c .before .sizes-of .result) (c .before .before .counts-of .ensures)
+    (c .before .sizes-of .ensures) (sym (k .is-known .ensures) ∙ not-true _ (c .before .before .before .if1 .taken)) (c .unknown-answer .ensures)
+
 returns : tie.Need-returns
 returns c =
-    let k = c .before .before .before in
-    let s = begun (k .before) in
-    let a = s .args in
-    subst (λ (words : List ℕ). HostRan (a .h) (callAt s words (fromHost (a .h))) (now (a .ids)) (now (a .entries)) (now (a .journal))
-    (record { answer = c .unknown-answer .result; error = 0; visits = 0 }) (a .h) (now (a .ids)) (now (a .entries)) (now (a .journal)))
-    (k .before .lent-words .ensures)
-    (ran-unknown (a .phase) (a .mode) (a .status) (now (a .rules)) (now (a .actions)) (now (k .before .lent-words .result)) (now (a .text))
-    (now (a .outcomes)) (a .h) (now (a .ids)) (now (a .entries)) (now (a .journal))
-    (c .unknown-answer .result) (c .before .sizes-of .result) (c .before .sizes-of .ensures)
-    (sym (k .is-known .ensures) ∙ not-true _ (c .before .before .if1 .taken)) (c .unknown-answer .ensures))
+    let u = c .before in
+    let l = u .before .before .before .before .before in
+    subst (λ (r : HostPhase). Unknown u r (lentPart (begun l .args .t7))) (sym (c .as-lent .ensures))
+    (subst (Unknown u _) (l .lent-words .ensures) (unknown u))
 
 from-host-requires : tie.Need-from-host-requires
 from-host-requires c κs = search needs
@@ -149,8 +169,10 @@ host-phase-spec =
     (tie.spec
     lent-words-requires
     is-known-requires
+    counts-of-requires
     sizes-of-requires
     unknown-answer-requires
+    as-lent-requires
     returns
     from-host-requires
     run-phase-requires

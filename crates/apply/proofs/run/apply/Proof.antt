@@ -11,25 +11,13 @@ set-by-code-requires : tie.Need-set-by-code-requires
 set-by-code-requires c κs = search needs
 
 returns : tie.Need-returns
-returns c =
-    turned-set _ _ _ _ _ _ _ _ (c .before .before .before .before .before .before .before .before .pre) _ (c .before .if1 .taken)
-    (c .set-by-code .ensures)
+returns c = turned-set _ _ _ _ _ _ _ _ _ (c .before .if1 .taken) (c .set-by-code .ensures)
 
 add-target-requires : tie.Need-add-target-requires
 add-target-requires c κs = search needs
 
-same-length : tie.Need-same-length
-same-length c = search needs
-
-same-length-2 : tie.Need-same-length-2
-same-length-2 c = search needs
-
 returns-2 : tie.Need-returns-2
-returns-2 c =
-    let whole = c .before .before .before .before .before .before .before .before .before .before .before .before .before .before
-    .before .pre in
-    turned-target _ _ _ _ _ _ _ _ whole _ _ _ (c .before .before .before .before .before .before .before .if2 .taken)
-    (c .before .before .before .before .add-target .ensures .0 (whole .phases-64, whole .positions-64))
+returns-2 c = turned-target _ _ _ _ _ _ _ _ _ _ _ (c .before .before .before .if2 .taken) (c .add-target .ensures)
 
 action-at-requires : tie.Need-action-at-requires
 action-at-requires c κs = search needs
@@ -40,25 +28,13 @@ part-of-requires c κs = search needs
 add-ranges-requires : tie.Need-add-ranges-requires
 add-ranges-requires c κs = search needs
 
-same-length-3 : tie.Need-same-length-3
-same-length-3 c = search needs
-
-same-length-4 : tie.Need-same-length-4
-same-length-4 c = search needs
-
 returns-3 : tie.Need-returns-3
 returns-3 c =
-    let whole = c .before .before .before .before .before .before .before .before .before .before .before .before .before .before
-    .before .before .before .pre in
-    turned-ranges _ _ _ _ _ _ _ _ whole _ _ _ _
-    (c .before .before .before .before .before .before .before .before .before .before .if1 .left)
-    (c .before .before .before .before .before .before .before .before .before .if2 .left)
-    (c .before .before .before .before .before .before .before .part-of .ensures ∙ ap
-    (λ (a : Action). partOf
-    (c .before .before .before .before .before .before .before .before .before .before .before .before .before .before .before
-    .before .before .args .text .now) (a .value))
-    (c .before .before .before .before .before .before .before .before .action-at .ensures))
-    (c .before .before .before .before .add-ranges .ensures .0 (whole .starts-256, whole .ends-256))
+    let e = c .before .before .before .before .before in
+    turned-ranges _ _ _ _ _ _ _ _ _ _ _ _ (e .before .if1 .left) (e .if2 .left)
+    (c .before .before .before .part-of .ensures
+    ∙ ap (λ (a : Action). partOf (e .before .before .before .before .args .text .now) (a .value)) (c .before .before .before .before .action-at .ensures))
+    (c .add-ranges .ensures)
 
 pub apply-spec : {M : Type 1} → statement M
 apply-spec =
@@ -67,12 +43,8 @@ apply-spec =
     set-by-code-requires
     returns
     add-target-requires
-    same-length
-    same-length-2
     returns-2
     action-at-requires
     part-of-requires
     add-ranges-requires
-    same-length-3
-    same-length-4
     returns-3)

@@ -1,18 +1,15 @@
 -- `apply::run::members_controls` meets its contract. The invariant: what the members from entry `i` on then do is what all of the unit do.
 use Prim.Native.Nat.{_+_, _-_, _<_, _^_}
-use mathlib.Core.Path.{sym, _∙_}
 use native.Mathlib.Omega.{arith}
 use Rattle.reading.specs.Records.{ruleList, actionList}
 use Rattle.apply.specs.Append.{structOf}
-use Rattle.apply.specs.ApplyUnit.{Whole}
 use Rattle.apply.proofs.run.UnitLaws.{Across, across-none, across-more, across-end}
 use Rattle.apply.proofs.run.members_controls.Statement.{statement}
 use Rattle.apply.proofs.run.members_controls.Tie as tie
 
 abbrev Inv-loop : tie.InvT-loop
 Inv-loop entries rules actions text codes phase starts₀ ends₀ phases₀ positions₀ n r₀ i₀ starts ends phases positions r i =
-    Whole starts ends phases positions
-    × Across (record { phase = phase; text = text; actions = actionList actions }) codes (ruleList rules) entries
+    Across (record { phase = phase; text = text; actions = actionList actions }) codes (ruleList rules) entries
     (structOf r₀ starts₀ ends₀ phases₀ positions₀) (structOf r starts ends phases positions) i
 
 abbrev μ-loop : tie.MeasureT-loop
@@ -22,8 +19,7 @@ small : (c : tie.In-loop Inv-loop μ-loop) → c .before .loop .i + 1 < 2 ^ 64
 small c = omega (arith, c .loop-test .taken)
 
 loop-holds : tie.Need-loop-holds Inv-loop μ-loop
-loop-holds c =
-    (c .before .before .before .before .before .before .before .before .before .pre, across-none _ _ _ _ _)
+loop-holds c = across-none _ _ _ _ _
 
 mul-index : tie.Need-mul-index Inv-loop μ-loop
 mul-index c = omega arith
@@ -47,60 +43,21 @@ shared-slice-read-verdict : tie.Need-shared-slice-read-verdict Inv-loop μ-loop
 shared-slice-read-verdict c = omega arith
 
 entry-controls-requires : tie.Need-entry-controls-requires Inv-loop μ-loop
-entry-controls-requires c κs = c .before .before .before .before .before .before .before .loop .inv .0
+entry-controls-requires c κs = tt
 
 add-i : tie.Need-add-i Inv-loop μ-loop
-add-i c =
-    record {
-      fits = small
-          (c .before .before .before .before .before .before .before .before .before .before .before .before .before .before
-          .before);
-    }
+add-i c = record { fits = small (c .before .before .before .before .before .before .before) }
 
 loop-less : tie.Need-loop-less Inv-loop μ-loop
-loop-less c =
-    omega (
-      arith,
-      c .before .before .before .before .before .before .before .before .before .before .before .before .before
-          .before .before .loop-test .taken,
-    )
+loop-less c = omega (arith, c .before .before .before .before .before .before .before .loop-test .taken)
 
 loop-again : tie.Need-loop-again Inv-loop μ-loop
 loop-again c =
-    let l = c .before .before .before .before .before .before .before .before .before .before .before .before .before .before
-    .before .before .loop in
-    let e = c .before .before .before .before .before .before .before .before .entry-controls .ensures in (
-      e .whole,
-      across-more _ _ _ _ _ _ (l .i) (l .inv .1) _
-          (c .before .before .before .before .before .before .before .before .before .before .before .before .before .before
-          .before
-          .loop-test .taken) (e .became),
-    )
-
-same-length : tie.Need-same-length Inv-loop μ-loop
-same-length c =
-    c .before .loop .inv .0 .starts-256 ∙ sym
-    (c .before .before .before .before .before .before .before .before .before .before .before .pre .starts-256)
-
-same-length-2 : tie.Need-same-length-2 Inv-loop μ-loop
-same-length-2 c =
-    c .before .loop .inv .0 .ends-256 ∙ sym
-    (c .before .before .before .before .before .before .before .before .before .before .before .pre .ends-256)
-
-same-length-3 : tie.Need-same-length-3 Inv-loop μ-loop
-same-length-3 c =
-    c .before .loop .inv .0 .phases-64 ∙ sym
-    (c .before .before .before .before .before .before .before .before .before .before .before .pre .phases-64)
-
-same-length-4 : tie.Need-same-length-4 Inv-loop μ-loop
-same-length-4 c =
-    c .before .loop .inv .0 .positions-64 ∙ sym
-    (c .before .before .before .before .before .before .before .before .before .before .before .pre .positions-64)
+    let l = c .before .before .before .before .before .before .before .before .loop in
+    across-more _ _ _ _ _ _ (l .i) (l .inv) _ (c .before .before .before .before .before .before .before .loop-test .taken) (c .entry-controls .ensures)
 
 returns : tie.Need-returns Inv-loop μ-loop
-returns c =
-    let l = c .before .loop in
-    record { whole = l .inv .0; became = across-end _ _ _ _ _ _ (l .i) (l .inv .1) (c .loop-test .left) }
+returns c = let l = c .before .loop in across-end _ _ _ _ _ _ (l .i) (l .inv) (c .loop-test .left)
 
 pub members-controls-spec : {M : Type 1} → statement M
 members-controls-spec =
@@ -120,8 +77,4 @@ members-controls-spec =
     add-i
     loop-less
     loop-again
-    same-length
-    same-length-2
-    same-length-3
-    same-length-4
     returns)

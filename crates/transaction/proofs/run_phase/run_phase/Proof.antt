@@ -1,6 +1,6 @@
 -- `transaction::run_phase::run_phase` meets its contract.
 use Prim.Native.Nat.{ℕ, _≤_, _/_, _-_}
-use mathlib.Core.Path.{_≡_, sym, _∙_}
+use mathlib.Core.Path.{_≡_, sym, subst, _∙_}
 use mathlib.Core.List.{List, [], _++_, append-nil}
 use native.Mathlib.Omega.{arith}
 use denote.Ref.{now}
@@ -12,7 +12,7 @@ use Rattle.reading.specs.Walk.{nothingToDo}
 use Rattle.reading.specs.Refusals.{refusalOf}
 use Rattle.lists.proofs.RecordLaws.{length-actions}
 use Rattle.apply.specs.Codes.{codesOf}
-use Rattle.refusals.specs.FirstRefusal.{firstOfSeven}
+use Rattle.refusals.specs.FirstRefusal.{Lent, firstOfSeven}
 use Rattle.transaction.proofs.Promise.{few-of-seven}
 use Rattle.transaction.proofs.Tested.{Given, callAt, lent-is, idle-is, digested, limited}
 use Rattle.transaction.proofs.Tested.{ran-first, ran-by, ran-nothing, ready-at, ran-at}
@@ -37,6 +37,9 @@ given c =
       journal = now (c .args .journal);
     }
 
+sizes-of-requires : tie.Need-sizes-of-requires
+sizes-of-requires c κs = search needs
+
 first-refusal-requires : tie.Need-first-refusal-requires
 first-refusal-requires c κs = search needs
 
@@ -54,7 +57,7 @@ abbrev past-nine : tie.After-is-idle → tie.Else2
 past-nine c = c .before .before .before
 
 abbrev given-first : tie.After-first-refusal → Given
-given-first c = given (c .before .before .before .before .before .before .before .before .before)
+given-first c = given (c .before .before .before .before .before .before .before .before .before .before)
 
 abbrev given-coded : tie.After-write-codes → Given
 given-coded c = given-first (past-seven c .before)
@@ -67,7 +70,10 @@ abbrev left : tie.After-write-codes → List ℕ
 left c = c .write-codes .last .1 .1 .0
 
 first : (c : tie.After-first-refusal) → c .first-refusal .result ≡ firstOfSeven (callAt (given-first c))
-first c = c .first-refusal .ensures (callAt (given-first c)) (lent-is (given-first c))
+first c =
+    let g = given-first c in
+    c .first-refusal .ensures (callAt g)
+    (subst (Lent (callAt g) (g .phase) (g .mode) (g .rules) (g .actions) (g .markers) (g .text) (g .outcomes)) (sym (c .before .sizes-of .ensures)) (lent-is g))
 
 zero : (c : tie.Else1) → firstOfSeven (callAt (given-first (c .before))) ≡ 0
 zero c = sym (first (c .before)) ∙ c .if1 .left
@@ -204,6 +210,7 @@ pub run-phase-spec : {M : Type 1} → statement M
 run-phase-spec =
     tie.close
     (tie.spec
+    sizes-of-requires
     first-refusal-requires
     as-lent-requires
     returns

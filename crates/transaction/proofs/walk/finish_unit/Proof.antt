@@ -30,7 +30,7 @@ journal-small c = omega (arith, c .good .1 .1 .1 .1 .1 .1 .1 .1 .1 .1 .0 .1)
 
 -- the start, seen from where the unit is closed, and that place, seen from where its controls are
 abbrev entered : tie.After-close-unit → tie.Start
-entered c = c .before .before .before .before .before .before .before .before .before .before .before .before .before .before .before .before .before .before .before .before
+entered c = c .before .before .before .before .before .before .before .before .before .before .before .before .before .before .before .before
 
 abbrev closed : tie.After-unit-controls → tie.After-close-unit
 closed c = c .before .before .before .before .before .before .before .before .before .before
@@ -49,13 +49,13 @@ anyRest c =
     }
 
 mul-from : tie.Need-mul-from
-mul-from c = let s = c .before .before .before .before .before .before .before .before .before .before .before .before .before .before in omega (arith, s .pre .0 .first, s .pre .0 .visits, journal-small s)
+mul-from c = let s = c .before .before .before .before .before .before .before .before .before .before in omega (arith, s .pre .first, s .pre .visits, journal-small s)
 
 mul-to : tie.Need-mul-to
-mul-to c = let s = c .before .before .before .before .before .before .before .before .before .before .before .before .before .before .before in omega (arith, s .pre .0 .visits, journal-small s)
+mul-to c = let s = c .before .before .before .before .before .before .before .before .before .before .before in omega (arith, s .pre .visits, journal-small s)
 
 mul-members : tie.Need-mul-members
-mul-members c = let s = c .before .before .before .before .before .before .before .before .before .before .before .before .before .before .before in omega (arith, s .pre .0 .first, s .pre .0 .visits, journal-small s)
+mul-members c = let s = c .before .before .before .before .before .before .before .before .before .before .before in omega (arith, s .pre .first, s .pre .visits, journal-small s)
 
 sub-members : tie.Need-sub-members
 sub-members c = search needs
@@ -67,28 +67,28 @@ part-members-end : tie.Need-part-members-end
 part-members-end c = search needs
 
 mul-free : tie.Need-mul-free
-mul-free c = let s = c .before .before .before .before .before .before .before .before .before .before .before .before .before .before .before .before .before in omega (arith, s .pre .0 .entries-used, entries-small s)
+mul-free c = let s = c .before .before .before .before .before .before .before .before .before .before .before .before .before in omega (arith, s .pre .entries-used, entries-small s)
 
 mul-close-unit : tie.Need-mul-close-unit
-mul-close-unit c = let s = c .before .before .before .before .before .before .before .before .before .before .before .before .before .before .before .before .before in omega (arith, s .pre .0 .ids-used, ids-small s)
+mul-close-unit c = let s = c .before .before .before .before .before .before .before .before .before .before .before .before .before in omega (arith, s .pre .ids-used, ids-small s)
 
 sub-close-unit : tie.Need-sub-close-unit
-sub-close-unit c = c .before .before .before .before .before .before .before .before .before .before .before .before .before .before .before .before .before .pre .0 .ids-used
+sub-close-unit c = c .before .before .before .before .before .before .before .before .before .before .before .before .before .pre .ids-used
 
 part-close-unit-start : tie.Need-part-close-unit-start
-part-close-unit-start c = c .before .before .before .before .before .before .before .before .before .before .before .before .before .before .before .before .before .pre .0 .ids-used
+part-close-unit-start c = c .before .before .before .before .before .before .before .before .before .before .before .before .before .pre .ids-used
 
 part-close-unit-end : tie.Need-part-close-unit-end
 part-close-unit-end c = search needs
 
 mul-close-unit-2 : tie.Need-mul-close-unit-2
-mul-close-unit-2 c = let s = c .before .before .before .before .before .before .before .before .before .before .before .before .before .before .before .before .before .before in omega (arith, s .pre .0 .entries-used, entries-small s)
+mul-close-unit-2 c = let s = c .before .before .before .before .before .before .before .before .before .before .before .before .before .before in omega (arith, s .pre .entries-used, entries-small s)
 
 sub-close-unit-2 : tie.Need-sub-close-unit-2
-sub-close-unit-2 c = c .before .before .before .before .before .before .before .before .before .before .before .before .before .before .before .before .before .before .pre .0 .entries-used
+sub-close-unit-2 c = c .before .before .before .before .before .before .before .before .before .before .before .before .before .before .pre .entries-used
 
 part-close-unit-start-2 : tie.Need-part-close-unit-start-2
-part-close-unit-start-2 c = c .before .before .before .before .before .before .before .before .before .before .before .before .before .before .before .before .before .before .pre .0 .entries-used
+part-close-unit-start-2 c = c .before .before .before .before .before .before .before .before .before .before .before .before .before .before .pre .entries-used
 
 part-close-unit-end-2 : tie.Need-part-close-unit-end-2
 part-close-unit-end-2 c = search needs
@@ -101,15 +101,15 @@ unit-controls-requires c κs = search needs
 
 leave-unit-requires : tie.Need-leave-unit-requires
 leave-unit-requires c κs =
-    let u = closed (c .before .before .before .before .before .before .before .before) in
+    let u = closed c in
     let s = entered u in
     let few = wrote-few _ _ _ _ _ _ _ _ (u .close-unit .ensures (anyRest s)) in
     let ids = now (s .args .ids) in
     let entries = now (s .args .entries) in
     let i = s .args .at .ids in
     let e = 4 * s .args .at .entries in (
-      omega (arith, few .0, ap length (lent-is ids i), length-drop i ids, s .pre .0 .ids-used, ids-small s),
-      omega (arith, few .1, ap length (lent-is entries e), length-drop e entries, s .pre .0 .entries-used, entries-small s),
+      omega (arith, few .0, ap length (lent-is ids i), length-drop i ids, s .pre .ids-used, ids-small s),
+      omega (arith, few .1, ap length (lent-is entries e), length-drop e entries, s .pre .entries-used, entries-small s),
     )
 
 same-length : tie.Need-same-length
@@ -118,21 +118,9 @@ same-length c = search needs
 same-length-2 : tie.Need-same-length-2
 same-length-2 c = search needs
 
-same-length-3 : tie.Need-same-length-3
-same-length-3 c = search needs
-
-same-length-4 : tie.Need-same-length-4
-same-length-4 c = search needs
-
-same-length-5 : tie.Need-same-length-5
-same-length-5 c = search needs
-
-same-length-6 : tie.Need-same-length-6
-same-length-6 c = search needs
-
 returns : tie.Need-returns
 returns c = λ rest mode status.
-    let x = c .before .before .before .before .before .before .before .before .before in
+    let x = c .before in
     let u = closed x in
     let s = entered u in
     let a = s .args in
@@ -150,7 +138,7 @@ returns c = λ rest mode status.
       wrote = rw (lent-is ids (a .at .ids), lent-is entries (4 * a .at .entries)) at (u .close-unit .ensures rest);
       ids-are = put-back ids (a .at .ids) (lists .0);
       entries-are = put-back entries (4 * a .at .entries) (lists .1 .0);
-      turned = x .unit-controls .ensures .0 (s .pre .1);
+      turned = x .unit-controls .ensures;
       left-is =
           c .leave-unit .ensures (now (a .markers)) (now (a .text)) (now (a .outcomes)) rest status
           ∙ ap (λ (m : RuleEngineMode). leftUnder m q (membersAt (a .at) (now (a .journal))) (a .at) (u .close-unit .result)
@@ -181,8 +169,4 @@ finish-unit-spec =
     leave-unit-requires
     same-length
     same-length-2
-    same-length-3
-    same-length-4
-    same-length-5
-    same-length-6
     returns)

@@ -7,13 +7,12 @@ use native.Mathlib.Omega.{arith}
 use borrow.Author.Tests.{not-true, not-false}
 use borrow.Author.Needs.{needs}
 use denote.Ref.{now}
-use lib.ListN.{length, length-map}
+use lib.ListN.{length}
 use Rattle.reading.specs.Call.{Call}
 use Rattle.reading.specs.Walk.{verdictAt}
 use Rattle.control.specs.ControlsStruct.{controlsOf}
 use Rattle.control.specs.declared.state.Controls.{Controls}
 use Rattle.apply.specs.Append.{structOf}
-use Rattle.apply.specs.ApplyUnit.{Whole}
 use Rattle.unit.specs.MemberList.{Rest}
 use Rattle.unit.specs.declared.visit.VisitOutcome.{VisitOutcome}
 use Rattle.unit.specs.VisitRule.{foundAt}
@@ -48,22 +47,11 @@ Inv-loop listed-before written-before call rules actions markers text outcomes c
     Sofar (callOf (call .phase) (call .mode) (call .status) rules actions markers text outcomes t ids₀ entries₀ journal₀) t ids₀
     entries₀ journal₀ ids entries journal (structOf (at .held) starts ends phases positions) (at .state) (at .visits) (at .ids)
     (at .entries)
-    × Whole starts ends phases positions
 
 abbrev μ-loop : tie.MeasureT-loop
 μ-loop listed-before written-before call rules actions markers text outcomes codes ids₀ entries₀ journal₀ starts₀ ends₀ phases₀ positions₀
     at₀ n ids entries journal starts ends phases positions at =
     length rules / 5 - at .state .next
-
--- the arrays of a struct have their lengths
-arrays-whole : (c : tie.Start Inv-loop μ-loop) → Whole (c .args .held .starts) (c .args .held .ends) (c .args .held .phases)
-    (c .args .held .positions)
-arrays-whole c = record {
-  starts-256 = sym (length-map (c .args .held .starts) _) ∙ c .good .0 .1 .1 .1 .0 .1 .0 .1;
-  ends-256 = sym (length-map (c .args .held .ends) _) ∙ c .good .0 .1 .1 .1 .1 .0 .1 .0 .1;
-  phases-64 = sym (length-map (c .args .held .phases) _) ∙ c .good .0 .1 .1 .1 .1 .1 .1 .0 .1 .0 .1;
-  positions-64 = sym (length-map (c .args .held .positions) _) ∙ c .good .0 .1 .1 .1 .1 .1 .1 .1 .0 .1 .0 .1;
-}
 
 -- the journal is in memory
 journal-small : (c : tie.Start Inv-loop μ-loop) → 8 * length (now (c .args .journal)) < 2 ^ 64
@@ -152,7 +140,7 @@ turn-by c w found-is w-is = record {
   visits = head c .loop .at .visits;
   listed = head c .loop .at .ids;
   written = head c .loop .at .entries;
-  so = head c .loop .inv .0;
+  so = head c .loop .inv;
   inside = inside-rules (now (entered (head c .before) .args .rules)) (head c .loop .at .state .next) (c .if1 .taken);
   found = w .verdict;
   found-is = found-is;
@@ -165,7 +153,7 @@ few c =
     few-ranges (Q (c .before)) (T (c .before)) (now (entered (c .before) .args .codes)) (now (entered (c .before) .args .ids))
     (now (entered (c .before) .args .entries)) (now (entered (c .before) .args .journal)) (ready (c .before))
     (c .loop .ids) (c .loop .entries) (c .loop .journal) (held-at c) (c .loop .at .state) (c .loop .at .visits) (c .loop .at .ids)
-    (c .loop .at .entries) (c .loop .inv .0)
+    (c .loop .at .entries) (c .loop .inv)
 
 -- the turn, where its rule has been visited
 abbrev turn : (c : tie.After-visit-next Inv-loop μ-loop) → Turning
@@ -188,7 +176,7 @@ journal-as-lent c =
     (Q (c .before)) (T (c .before)) (now (entered (c .before) .args .codes)) (now (entered (c .before) .args .ids))
     (now (entered (c .before) .args .entries)) (now (entered (c .before) .args .journal)) (ready (c .before))
     (c .loop .ids) (c .loop .entries) (c .loop .journal) (held-at c) (c .loop .at .state) (c .loop .at .visits) (c .loop .at .ids)
-    (c .loop .at .entries) (c .loop .inv .0)
+    (c .loop .at .entries) (c .loop .inv)
 
 ids-as-lent : (c : tie.At-loop Inv-loop μ-loop) → length (c .loop .ids) ≡ length (now (entered (c .before) .args .ids))
 ids-as-lent c =
@@ -196,7 +184,7 @@ ids-as-lent c =
     (Q (c .before)) (T (c .before)) (now (entered (c .before) .args .codes)) (now (entered (c .before) .args .ids))
     (now (entered (c .before) .args .entries)) (now (entered (c .before) .args .journal)) (ready (c .before))
     (c .loop .ids) (c .loop .entries) (c .loop .journal) (held-at c) (c .loop .at .state) (c .loop .at .visits) (c .loop .at .ids)
-    (c .loop .at .entries) (c .loop .inv .0)
+    (c .loop .at .entries) (c .loop .inv)
 
 entries-as-lent : (c : tie.At-loop Inv-loop μ-loop) → length (c .loop .entries) ≡ length (now (entered (c .before) .args .entries))
 entries-as-lent c =
@@ -204,19 +192,17 @@ entries-as-lent c =
     (Q (c .before)) (T (c .before)) (now (entered (c .before) .args .codes)) (now (entered (c .before) .args .ids))
     (now (entered (c .before) .args .entries)) (now (entered (c .before) .args .journal)) (ready (c .before))
     (c .loop .ids) (c .loop .entries) (c .loop .journal) (held-at c) (c .loop .at .state) (c .loop .at .visits) (c .loop .at .ids)
-    (c .loop .at .entries) (c .loop .inv .0)
+    (c .loop .at .entries) (c .loop .inv)
 
 start-requires : tie.Need-start-requires Inv-loop μ-loop
 start-requires c κs = tt
 
 loop-holds : tie.Need-loop-holds Inv-loop μ-loop
 loop-holds c =
-    let a = entered c .args in (
-      subst (λ (r : Reached). Sofar (Q c) (T c) (now (a .ids)) (now (a .entries)) (now (a .journal)) (now (a .ids)) (now (a .entries))
-          (now (a .journal)) (first c) (r .state) (r .visits) (r .ids) (r .entries)) (sym (c .start .ensures))
-          (sofar-none (Q c) (T c) (now (a .codes)) (now (a .ids)) (now (a .entries)) (now (a .journal)) refl (ready c)),
-      arrays-whole (entered c),
-    )
+    let a = entered c .args in
+    subst (λ (r : Reached). Sofar (Q c) (T c) (now (a .ids)) (now (a .entries)) (now (a .journal)) (now (a .ids)) (now (a .entries))
+    (now (a .journal)) (first c) (r .state) (r .visits) (r .ids) (r .entries)) (sym (c .start .ensures))
+    (sofar-none (Q c) (T c) (now (a .codes)) (now (a .ids)) (now (a .entries)) (now (a .journal)) refl (ready c))
 
 visit-next-requires : tie.Need-visit-next-requires Inv-loop μ-loop
 visit-next-requires c κs =
@@ -224,7 +210,7 @@ visit-next-requires c κs =
     let a = entered (h .before) .args in
     journal-ahead (Q (h .before)) (T (h .before)) (now (a .codes)) (now (a .ids)) (now (a .entries)) (now (a .journal))
     (ready (h .before)) refl (h .loop .ids) (h .loop .entries) (h .loop .journal) (held-at h) (h .loop .at .state)
-    (h .loop .at .visits) (h .loop .at .ids) (h .loop .at .entries) (h .loop .inv .0)
+    (h .loop .at .visits) (h .loop .at .ids) (h .loop .at .entries) (h .loop .inv)
     (inside-rules (now (a .rules)) (h .loop .at .state .next) (c .before .before .before .if1 .taken))
 
 add-at : tie.Need-add-at Inv-loop μ-loop
@@ -269,11 +255,9 @@ loop-less c =
 loop-again : tie.Need-loop-again Inv-loop μ-loop
 loop-again c =
     let e = c .before .before .before .before in
-    let v = visited e in (
-      sofar-on (turn v) (journal-with v) (v .visit-next .ensures .1) (not-true (v .visit-next .result .closes) (c .if3 .taken))
-          (sym (e .is-error .ensures) ∙ c .before .before .before .if2 .left),
-      head (turning v) .loop .inv .1,
-    )
+    let v = visited e in
+    sofar-on (turn v) (journal-with v) (v .visit-next .ensures .1) (not-true (v .visit-next .result .closes) (c .if3 .taken))
+    (sym (e .is-error .ensures) ∙ c .before .before .before .if2 .left)
 
 -- A UNIT IS CLOSED
 
@@ -283,27 +267,13 @@ at-else c = visited (c .before .before .before .before)
 closes : (c : tie.Else3 Inv-loop μ-loop) → at-else c .visit-next .result .closes ≡ true
 closes c = not-false (at-else c .visit-next .result .closes) (c .if3 .left)
 
-slice-aggregate-finish-unit : tie.Need-slice-aggregate-finish-unit Inv-loop μ-loop
-slice-aggregate-finish-unit c = sym (head (turning (at-else (c .before .before .before .before))) .loop .inv .1 .starts-256)
-
-slice-aggregate-finish-unit-2 : tie.Need-slice-aggregate-finish-unit-2 Inv-loop μ-loop
-slice-aggregate-finish-unit-2 c = sym (head (turning (at-else (c .before .before .before .before .before))) .loop .inv .1 .ends-256)
-
-slice-aggregate-finish-unit-3 : tie.Need-slice-aggregate-finish-unit-3 Inv-loop μ-loop
-slice-aggregate-finish-unit-3 c = sym (head (turning (at-else (c .before .before .before .before .before .before))) .loop .inv .1 .phases-64)
-
-slice-aggregate-finish-unit-4 : tie.Need-slice-aggregate-finish-unit-4 Inv-loop μ-loop
-slice-aggregate-finish-unit-4 c = sym (head (turning (at-else (c .before .before .before .before .before .before .before))) .loop .inv .1 .positions-64)
-
 finish-unit-requires : tie.Need-finish-unit-requires Inv-loop μ-loop
 finish-unit-requires c κs =
     let x = c .before .before .before .before .before .before .before in
     let v = at-else x in
-    let l = head (turning v) .loop in (
-      room-closed (turn v) (journal-with v) (v .visit-next .ensures .1) (closes x) (l .at .held) (l .starts) (l .ends) (l .phases)
-          (l .positions) refl,
-      l .inv .1,
-    )
+    let l = head (turning v) .loop in
+    room-closed (turn v) (journal-with v) (v .visit-next .ensures .1) (closes x) (l .at .held) (l .starts) (l .ends) (l .phases)
+    (l .positions) refl
 
 -- what closing it left
 unit-closed : (c : tie.After-finish-unit Inv-loop μ-loop)
@@ -327,7 +297,7 @@ ended-requires-2 : tie.Need-ended-requires-2 Inv-loop μ-loop
 ended-requires-2 c κs = tt
 
 same-length-4 : tie.Need-same-length-4 Inv-loop μ-loop
-same-length-4 c = let k = c .before .before .before .before .before .before .before .before .before .before .before .before in
+same-length-4 c = let k = c .before .before .before .before .before .before .before .before in
     let x = closing k in
     let v = at-else x in
     let l = head (turning v) .loop in
@@ -335,7 +305,7 @@ same-length-4 c = let k = c .before .before .before .before .before .before .bef
     (l .positions) refl _ _ _ _ _ _ _ (unit-closed k)
 
 same-length-5 : tie.Need-same-length-5 Inv-loop μ-loop
-same-length-5 c = let k = c .before .before .before .before .before .before .before .before .before .before .before .before in
+same-length-5 c = let k = c .before .before .before .before .before .before .before .before in
     let x = closing k in
     let v = at-else x in
     let l = head (turning v) .loop in
@@ -344,12 +314,12 @@ same-length-5 c = let k = c .before .before .before .before .before .before .bef
 
 same-length-6 : tie.Need-same-length-6 Inv-loop μ-loop
 same-length-6 c =
-    let v = at-else (closing (c .before .before .before .before .before .before .before .before .before .before .before .before)) in
+    let v = at-else (closing (c .before .before .before .before .before .before .before .before)) in
     journal-long (turn v) (journal-with v) (v .visit-next .ensures .1)
 
 returns-2 : tie.Need-returns-2 Inv-loop μ-loop
 returns-2 c =
-    let k = c .before .before .before .before .before .before .before .before .before .before .before .before in
+    let k = c .before .before .before .before .before .before .before .before in
     let x = closing k in
     let v = at-else x in
     let l = head (turning v) .loop in
@@ -360,7 +330,7 @@ returns-2 c =
 
 loop-less-2 : tie.Need-loop-less-2 Inv-loop μ-loop
 loop-less-2 c =
-    let k = c .before .before .before .before .before .before .before .before .before .before .before in
+    let k = c .before .before .before .before .before .before .before in
     let x = closing k in
     let v = at-else x in
     let l = head (turning v) .loop in
@@ -370,14 +340,12 @@ loop-less-2 c =
 
 loop-again-2 : tie.Need-loop-again-2 Inv-loop μ-loop
 loop-again-2 c =
-    let k = c .before .before .before .before .before .before .before .before .before .before .before in
+    let k = c .before .before .before .before .before .before .before in
     let x = closing k in
     let v = at-else x in
-    let l = head (turning v) .loop in (
-      sofar-closed (turn v) (journal-with v) (v .visit-next .ensures .1) (closes x) (l .at .held) (l .starts) (l .ends) (l .phases)
-          (l .positions) refl _ _ _ _ _ _ _ (unit-closed k) _ (c .before .left .given .1),
-      unit-closed k .turned .whole,
-    )
+    let l = head (turning v) .loop in
+    sofar-closed (turn v) (journal-with v) (v .visit-next .ensures .1) (closes x) (l .at .held) (l .starts) (l .ends) (l .phases)
+    (l .positions) refl _ _ _ _ _ _ _ (unit-closed k) _ (c .before .left .given .1)
 
 -- NO RULE IS LEFT
 
@@ -404,7 +372,7 @@ returns-3 c =
     (walked (h .before) _ _ _ _
     (sofar-end (Q (h .before)) (T (h .before)) (now (a .ids)) (now (a .entries)) (now (a .journal))
     (h .loop .ids) (h .loop .entries) (h .loop .journal) (held-at h) (h .loop .at .state) (h .loop .at .visits) (h .loop .at .ids)
-    (h .loop .at .entries) (h .loop .inv .0)
+    (h .loop .at .entries) (h .loop .inv)
     (past-rules (now (a .rules)) (h .loop .at .state .next) (c .before .before .if1 .left))))
 
 pub walk-rules-spec : {M : Type 1} → statement M
@@ -426,10 +394,6 @@ walk-rules-spec =
     returns
     loop-less
     loop-again
-    slice-aggregate-finish-unit
-    slice-aggregate-finish-unit-2
-    slice-aggregate-finish-unit-3
-    slice-aggregate-finish-unit-4
     finish-unit-requires
     enum-known-left
     enum-known-left-2
