@@ -164,7 +164,7 @@ pub fn host_phase(
     h: HostTransaction,
     phase: u64,
     mode: u64,
-    status: u64,
+    default_status: u64,
     rules: &[u64],
     actions: &[u64],
     markers: MarkerWords,
@@ -174,7 +174,7 @@ pub fn host_phase(
     entries: &mut [u64],
     journal: &mut [u64],
 ) -> HostPhase
-    ensures { λ r. ⌜ HostRan h (callOf phase mode status (now (rules .entry)) (now (actions .entry)) (lentPart markers) (now (text .entry)) (now (outcomes .entry)) (fromHost h) (now (ids .entry)) (now (entries .entry)) (now (journal .entry)))
+    ensures { λ r. ⌜ HostRan h (callOf phase mode «default_status» (now (rules .entry)) (now (actions .entry)) (lentPart markers) (now (text .entry)) (now (outcomes .entry)) (fromHost h) (now (ids .entry)) (now (entries .entry)) (now (journal .entry)))
         (now (ids .entry)) (now (entries .entry)) (now (journal .entry)) (r .answer) (r .transaction) (now (ids .exit)) (now (entries .exit)) (now (journal .exit)) ⌝ }
 {
     let words = lent_words(&markers.words, markers.count);
@@ -194,7 +194,7 @@ pub fn host_phase(
         t,
         phase,
         mode,
-        status,
+        default_status,
         rules,
         actions,
         words,

@@ -13,7 +13,7 @@ pub extern "C" fn tivembo_run_phase(
     t: &mut HostTransaction,
     phase: u64,
     mode: u64,
-    status: u64,
+    default_status: u64,
     rules: &[u64],
     actions: &[u64],
     markers: &[Marker],
@@ -23,7 +23,7 @@ pub extern "C" fn tivembo_run_phase(
     entries: &mut [u64],
     journal: &mut [u64],
 ) -> Answer
-    ensures { λ r. ⌜ HostRan (now (t .entry)) (callLent phase mode status (now (rules .entry)) (now (actions .entry)) (now (markers .entry)) (now (text .entry)) (now (outcomes .entry)) (fromHost (now (t .entry))) (now (ids .entry)) (now (entries .entry)) (now (journal .entry)))
+    ensures { λ r. ⌜ HostRan (now (t .entry)) (callLent phase mode «default_status» (now (rules .entry)) (now (actions .entry)) (now (markers .entry)) (now (text .entry)) (now (outcomes .entry)) (fromHost (now (t .entry))) (now (ids .entry)) (now (entries .entry)) (now (journal .entry)))
         (now (ids .entry)) (now (entries .entry)) (now (journal .entry)) r (now (t .exit)) (now (ids .exit)) (now (entries .exit)) (now (journal .exit)) ⌝ }
 {
     let c = marker_words::unpack(markers);
@@ -31,7 +31,7 @@ pub extern "C" fn tivembo_run_phase(
         *t,
         phase,
         mode,
-        status,
+        default_status,
         rules,
         actions,
         c,

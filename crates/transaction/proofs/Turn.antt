@@ -56,7 +56,7 @@ use Rattle.intervention.specs.declared.decide.Ending.{Ending}
 use Rattle.intervention.specs.EndOfVisit.{endBy}
 use Rattle.intervention.specs.BuildIntervention.{interventionAtEnd}
 use Rattle.transaction.specs.declared.types.Transaction.{Transaction}
-use Rattle.transaction.specs.declared.types.Reached.{Reached}
+use Rattle.transaction.specs.declared.types.WalkState.{WalkState}
 use Rattle.transaction.specs.declared.types.End.{End}
 use Rattle.transaction.specs.declared.types.AfterUnit.{AfterUnit}
 use Rattle.transaction.specs.WalkRules.{visitsFrom, Ready, isGoing, isErrs, isAllows, endedBy, Walked}
@@ -126,18 +126,18 @@ gave-none q closes unit past ids entries e = record {
 }
 
 -- what is left of a walk by whether a unit was its last
-left-on : (last : Bool) (e : Ending) (at : Reached) (stop : OptionIntervention) (next : Reached)
+left-on : (last : Bool) (e : Ending) (at : WalkState) (stop : OptionIntervention) (next : WalkState)
     → leftBy last e at stop ≡ AfterUnit.GoesOn next → (last ≡ false) × (at ≡ next)
 left-on true e at stop next h = absurd (let z : _≡_ {A = ℕ} 0 1 = cc in omega arith)
 left-on false e at stop next h = (refl, cc)
 
-left-end : (last : Bool) (e : Ending) (at : Reached) (stop : OptionIntervention) (end : End)
+left-end : (last : Bool) (e : Ending) (at : WalkState) (stop : OptionIntervention) (end : End)
     → leftBy last e at stop ≡ AfterUnit.Ends end → (last ≡ true) × (record { ending = e; at = at; stop = stop } ≡ end)
 left-end true e at stop end h = (refl, cc)
 left-end false e at stop end h = absurd (let z : _≡_ {A = ℕ} 0 1 = cc in omega arith)
 
 -- what the code makes of how a unit leaves the phase, and of whether it is the last
-module _ (mode : RuleEngineMode) (d : DisruptiveOutcome) (at : Reached) (i : Intervention) (e : Ending) (e-is : e ≡ endBy d mode)
+module _ (mode : RuleEngineMode) (d : DisruptiveOutcome) (at : WalkState) (i : Intervention) (e : Ending) (e-is : e ≡ endBy d mode)
     (last : Bool) (last-is : last ≡ (not (isGoing e) || isOff mode)) where
   abbrev leftSo : AfterUnit
   leftSo = leftBy (not (isGoing (endBy d mode)) || isOff mode) (endBy d mode) at (interventionAtEnd (endBy d mode) i)
@@ -749,10 +749,10 @@ module _ (turn : Turning) where
                 (closes-matched q reading (so .members) (controlsOf c) s visits inside found found-is w w-is d)))
 
     -- A VISIT THAT CLOSES A UNIT
-    module _ (closes : w .closes ≡ true) (held : ControlCounts) (starts ends phases positions : List ℕ)
-        (c-is : c ≡ structOf held starts ends phases positions) where
-      abbrev at : Reached
-      at = record { state = w .after; visits = visits + 1; ids = listed; entries = written; held = held }
+    module _ (closes : w .closes ≡ true) (counts : ControlCounts) (starts ends phases positions : List ℕ)
+        (c-is : c ≡ structOf counts starts ends phases positions) where
+      abbrev at : WalkState
+      at = record { state = w .after; visits = visits + 1; ids = listed; entries = written; counts = counts }
 
       pub room-closed : Room at ids entries journal′
       room-closed = record { first = part-start; visits = part-end; ids-used = ids-start; entries-used = entries-start }
@@ -769,7 +769,7 @@ module _ (turn : Turning) where
               (x .free-entries) closes (x .wrote)
 
           abbrev c₁ : Controls
-          c₁ = structOf (x .held) starts₁ ends₁ phases₁ positions₁
+          c₁ = structOf (x .counts) starts₁ ends₁ phases₁ positions₁
 
           became-unit : Became c c₁ (v .after .controls)
           became-unit =
@@ -794,36 +794,36 @@ module _ (turn : Turning) where
           pub entries-closed : length entries₁ ≡ length entries₀
           entries-closed = ap length (x .entries-are) ∙ entries-kept u (x .free-ids) (x .free-entries) gave
 
-          module _ (next : Reached) (goes-on : r ≡ AfterUnit.GoesOn next) where
-            left : ((not (isGoing e) || isOff mode) ≡ false) × (movedBy at u (x .held) ≡ next)
-            left = left-on (not (isGoing e) || isOff mode) e (movedBy at u (x .held)) (interventionAtEnd e (unitIntervention q part)) next
+          module _ (next : WalkState) (goes-on : r ≡ AfterUnit.GoesOn next) where
+            left : ((not (isGoing e) || isOff mode) ≡ false) × (movedBy at u (x .counts) ≡ next)
+            left = left-on (not (isGoing e) || isOff mode) e (movedBy at u (x .counts)) (interventionAtEnd e (unitIntervention q part)) next
                 (sym (x .left-is) ∙ goes-on)
 
             pub sofar-closed : Sofar q t ids₀ entries₀ journal₀ ids₁ entries₁ journal′
-                (structOf (next .held) starts₁ ends₁ phases₁ positions₁) (next .state) (next .visits) (next .ids) (next .entries)
+                (structOf (next .counts) starts₁ ends₁ phases₁ positions₁) (next .state) (next .visits) (next .ids) (next .entries)
             sofar-closed =
                 rw (x .ids-are, x .entries-are)
-                (subst (λ (n : Reached). Sofar q t ids₀ entries₀ journal₀ (take listed ids ++ x .free-ids)
+                (subst (λ (n : WalkState). Sofar q t ids₀ entries₀ journal₀ (take listed ids ++ x .free-ids)
                 (take (4 * written) entries ++ x .free-entries) journal′
-                (structOf (n .held) starts₁ ends₁ phases₁ positions₁) (n .state) (n .visits) (n .ids) (n .entries)) (left .1)
+                (structOf (n .counts) starts₁ ends₁ phases₁ positions₁) (n .state) (n .visits) (n .ids) (n .entries)) (left .1)
                 (sofar-more u (x .free-ids) (x .free-entries) gave c₁ became-unit e end-now (left .0)))
 
             pub fewer-left-closed : (n : ℕ) → s .next < n → n - next .state .next < n - s .next
             fewer-left-closed n h =
-                subst (λ (y : Reached). n - y .state .next < n - s .next) (left .1)
+                subst (λ (y : WalkState). n - y .state .next < n - s .next) (left .1)
                 (fewer-left u (x .free-ids) (x .free-entries) gave n h)
 
           pub walked-closed : (end : End) → r ≡ AfterUnit.Ends end
               → Walked q t ids₀ entries₀ journal₀
               (endedBy (end .ending) (end .at .state .next) (end .at .visits) (end .at .ids) (end .at .entries) (end .stop)
-              (structOf (end .at .held) starts₁ ends₁ phases₁ positions₁)) ids₁ entries₁ journal′
+              (structOf (end .at .counts) starts₁ ends₁ phases₁ positions₁)) ids₁ entries₁ journal′
           walked-closed end ends-so =
-              let l = left-end (not (isGoing e) || isOff mode) e (movedBy at u (x .held)) (interventionAtEnd e (unitIntervention q part)) end
+              let l = left-end (not (isGoing e) || isOff mode) e (movedBy at u (x .counts)) (interventionAtEnd e (unitIntervention q part)) end
               (sym (x .left-is) ∙ ends-so) in
               rw (x .ids-are, x .entries-are)
               (subst (λ (y : End). Walked q t ids₀ entries₀ journal₀
               (endedBy (y .ending) (y .at .state .next) (y .at .visits) (y .at .ids) (y .at .entries) (y .stop)
-              (structOf (y .at .held) starts₁ ends₁ phases₁ positions₁)) (take listed ids ++ x .free-ids)
+              (structOf (y .at .counts) starts₁ ends₁ phases₁ positions₁)) (take listed ids ++ x .free-ids)
               (take (4 * written) entries ++ x .free-entries) journal′) (l .1)
               (sofar-last u (x .free-ids) (x .free-entries) gave c₁ became-unit e end-now (u .next)
               (no-index (u .next) (s .next) (isAllow (u .disruptive)) (isStopping (u .disruptive) && isOn mode))

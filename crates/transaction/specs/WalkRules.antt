@@ -27,7 +27,7 @@ use Rattle.intervention.specs.EndOfVisit.{endBy}
 use Rattle.intervention.specs.BuildIntervention.{interventionAtEnd}
 use Rattle.transaction.specs.declared.types.Transaction.{Transaction}
 use Rattle.transaction.specs.declared.types.Phase.{Phase}
-use Rattle.transaction.specs.declared.types.Reached.{Reached}
+use Rattle.transaction.specs.declared.types.WalkState.{WalkState}
 use Rattle.transaction.specs.declared.types.AfterUnit.{AfterUnit}
 
 -- a transaction without allow and intervention
@@ -97,53 +97,53 @@ pub record Walked (q : Call) (t : Transaction) (ids entries journal : List ℕ) 
   pub intervention : r .transaction .intervention ≡ interventionBy (visitsFrom q)
 
 -- how far the walk is before the first rule, with so many ids and data entries in use
-abbrev pub startOf : Controls → ℕ → ℕ → Reached
+abbrev pub startOf : Controls → ℕ → ℕ → WalkState
 startOf c ids entries = record {
   state = record { next = 0; chained = false; first = 0 };
   visits = 0;
   ids = ids;
   entries = entries;
-  held = record { settings = c .settings; ranges = c .ranges; targets = c .targets };
+  counts = record { settings = c .settings; ranges = c .ranges; targets = c .targets };
 }
 
 -- A CLOSED UNIT. `at` is how far the walk is with the visit of the closing rule, before the unit's flow.
 
 -- what closing a unit asks: its entries are in the journal, and no list is shorter than what of it is in use
-pub record Room (at : Reached) (ids entries journal : List ℕ) : Type 0 where
+pub record Room (at : WalkState) (ids entries journal : List ℕ) : Type 0 where
   pub first : at .state .first ≤ at .visits
   pub visits : 2 * at .visits ≤ length journal
   pub ids-used : at .ids ≤ length ids
   pub entries-used : 4 * at .entries ≤ length entries
 
 -- the unit's members: the matched entries of the journal from its first one on
-abbrev pub membersAt : Reached → List ℕ → List ℕ
+abbrev pub membersAt : WalkState → List ℕ → List ℕ
 membersAt at journal = matchedIn (journalList (take (2 * at .visits - 2 * at .state .first) (drop (2 * at .state .first) journal)))
 
 -- how far the walk is after a unit that gave so much, with these settings and counts of the controls
-abbrev pub movedBy : Reached → UnitOutcome → ControlCounts → Reached
-movedBy at gave held = record {
+abbrev pub movedBy : WalkState → UnitOutcome → ControlCounts → WalkState
+movedBy at gave counts = record {
   state = record { next = gave .next; chained = at .state .chained; first = at .state .first };
   visits = at .visits;
   ids = at .ids + gave .ids;
   entries = at .entries + gave .entries;
-  held = held;
+  counts = counts;
 }
 
 -- where the walk is left so: it ends, where this was the last visit
-abbrev pub leftBy : Bool → Ending → Reached → OptionIntervention → AfterUnit
+abbrev pub leftBy : Bool → Ending → WalkState → OptionIntervention → AfterUnit
 leftBy last e at stop = cond last (AfterUnit.Ends (record { ending = e; at = at; stop = stop })) (AfterUnit.GoesOn at)
 
 -- the same by the mode after the unit's controls, the unit's last disruptive action and its intervention
-abbrev pub leftUnder : RuleEngineMode → Call → List ℕ → Reached → UnitOutcome → ControlCounts → AfterUnit
-leftUnder mode q unit at gave held =
+abbrev pub leftUnder : RuleEngineMode → Call → List ℕ → WalkState → UnitOutcome → ControlCounts → AfterUnit
+leftUnder mode q unit at gave counts =
     let e = endBy (gave .disruptive) mode in
-    leftBy (not (isGoing e) || isOff mode) e (movedBy at gave held) (interventionAtEnd e (unitIntervention q unit))
+    leftBy (not (isGoing e) || isOff mode) e (movedBy at gave counts) (interventionAtEnd e (unitIntervention q unit))
 
 -- what closing a unit leaves: `gave` is what the unit gave, and `held` the settings and counts after its controls
-pub record UnitClosed (q : Call) (codes : List ℕ) (at : Reached) (ids entries journal starts ends phases positions : List ℕ) (r : AfterUnit)
+pub record UnitClosed (q : Call) (codes : List ℕ) (at : WalkState) (ids entries journal starts ends phases positions : List ℕ) (r : AfterUnit)
     (ids′ entries′ starts′ ends′ phases′ positions′ : List ℕ) : Type 0 where
   pub gave : UnitOutcome
-  pub held : ControlCounts
+  pub counts : ControlCounts
   -- the free ends of the two lists after it
   pub free-ids : List ℕ
   pub free-entries : List ℕ
@@ -151,7 +151,7 @@ pub record UnitClosed (q : Call) (codes : List ℕ) (at : Reached) (ids entries 
       free-entries
   pub ids-are : ids′ ≡ take (at .ids) ids ++ free-ids
   pub entries-are : entries′ ≡ take (4 * at .entries) entries ++ free-entries
-  pub turned : Turned (at .held) starts ends phases positions held starts′ ends′ phases′ positions′
+  pub turned : Turned (at .counts) starts ends phases positions counts starts′ ends′ phases′ positions′
       (unitByCodes (record { phase = q .phase; text = q .text; actions = q .actions }) codes (q .rules) (membersAt at journal)
-      (controlsOf (structOf (at .held) starts ends phases positions)))
-  pub left-is : r ≡ leftUnder (modeUnder q (controlsOf (structOf held starts′ ends′ phases′ positions′))) q (membersAt at journal) at gave held
+      (controlsOf (structOf (at .counts) starts ends phases positions)))
+  pub left-is : r ≡ leftUnder (modeUnder q (controlsOf (structOf counts starts′ ends′ phases′ positions′))) q (membersAt at journal) at gave counts

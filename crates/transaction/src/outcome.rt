@@ -106,7 +106,7 @@ pub fn ended(
     positions: [u64; limits::TARGETS],
 ) -> Phase
     ensures { λ r. ⌜ r ≡ endedBy (end .ending) (end .at .state .next) (end .at .visits) (end .at .ids) (end .at .entries) (end .stop)
-        (structOf (end .at .held) starts ends phases positions) ⌝ }
+        (structOf (end .at .counts) starts ends phases positions) ⌝ }
 {
     let ending = end.ending;
     let at = end.at;
@@ -116,7 +116,7 @@ pub fn ended(
         visits: at.visits as u64,
     };
     let allowed = gives_allow(ending);
-    let h = at.held;
+    let h = at.counts;
     let settings = h.settings;
     let controls = Controls {
         settings,

@@ -60,7 +60,7 @@ pub fn run_phase(
     t: Transaction,
     phase: u64,
     mode: u64,
-    status: u64,
+    default_status: u64,
     rules: &[u64],
     actions: &[u64],
     markers: &[u64],
@@ -70,7 +70,7 @@ pub fn run_phase(
     entries: &mut [u64],
     journal: &mut [u64],
 ) -> Phase
-    ensures { λ r. ⌜ Ran (callOf phase mode status (now (rules .entry)) (now (actions .entry)) (now (markers .entry)) (now (text .entry)) (now (outcomes .entry)) t (now (ids .entry)) (now (entries .entry)) (now (journal .entry)))
+    ensures { λ r. ⌜ Ran (callOf phase mode «default_status» (now (rules .entry)) (now (actions .entry)) (now (markers .entry)) (now (text .entry)) (now (outcomes .entry)) t (now (ids .entry)) (now (entries .entry)) (now (journal .entry)))
         t (now (entries .entry)) (now (journal .entry)) r (now (ids .exit)) (now (entries .exit)) (now (journal .exit)) ⌝ }
 {
     let ranges = t.controls.ranges;
@@ -97,7 +97,7 @@ pub fn run_phase(
     let call = CallSettings {
         phase,
         mode,
-        status,
+        default_status,
     };
     let c = t.controls;
     walk::walk_rules(

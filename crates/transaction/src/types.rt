@@ -34,28 +34,28 @@ pub struct Phase {
 pub struct CallSettings {
     pub phase: u64,
     pub mode: u64,
-    pub status: u64,
+    pub default_status: u64,
 }
 
 // How far a walk is: where it stands, how many rules it has visited, how many matched ids and data entries are in use, and what
 // of the controls is passed by value.
-pub struct Reached {
+pub struct WalkState {
     pub state: State,
     pub visits: usize,
     pub ids: usize,
     pub entries: usize,
-    pub held: ControlCounts,
+    pub counts: ControlCounts,
 }
 
 // How a walk ended, how far it was then, and the intervention or none.
 pub struct End {
     pub ending: Ending,
-    pub at: Reached,
+    pub at: WalkState,
     pub stop: OptionIntervention,
 }
 
 // Where a closed unit leaves the walk.
 pub enum AfterUnit {
-    GoesOn(Reached),
+    GoesOn(WalkState),
     Ends(End),
 }

@@ -4,7 +4,7 @@ use crate::types::AfterUnit;
 use crate::types::CallSettings;
 use crate::types::End;
 use crate::types::Phase;
-use crate::types::Reached;
+use crate::types::WalkState;
 use apply::append::ControlCounts;
 use apply::run;
 use control::fields;
@@ -38,7 +38,7 @@ ghost use Rattle.transaction.specs.WalkRules.{fresh, Ready, Walked, star
 
 // Visits the rule that the walk stands at, under the held ranges, and writes it after the journal's entries.
 fn visit_next<'a>(
-    at: Reached,
+    at: WalkState,
     rules: &[u64],
     outcomes: &[u8],
     starts: &'a [u64; limits::RANGES],
@@ -47,14 +47,14 @@ fn visit_next<'a>(
 ) -> VisitOutcome
     requires { ⌜ 2 * at .visits + 2 ≤ length (now journal) ⌝ }
     ensures { λ r. ⌜ r ≡ foundAt (ruleList (now (rules .entry))) (at .state) (at .visits)
-        (cond (isRemoved (rangeList (min (at .held .ranges) 256) (now (starts .entry)) (now (ends .entry))) (recordId (getD (ruleList (now (rules .entry))) (at .state .next) noRule)))
+        (cond (isRemoved (rangeList (min (at .counts .ranges) 256) (now (starts .entry)) (now (ends .entry))) (recordId (getD (ruleList (now (rules .entry))) (at .state .next) noRule)))
         Verdict.Removed (verdictBy (getD (now (outcomes .entry)) (at .state .next) 0))) ⌝ }
     ensures { λ r. ⌜ now (journal .exit) ≡ atFreeEnd (2 * at .visits) (now (journal .entry)) (at .state .next ∷ verdictNumber (r .verdict) ∷ []) ⌝ }
 {
     let state = at.state;
     let visits = at.visits;
     let next = state.next;
-    let found = visit::verdict_at(rules, outcomes, next, starts, ends, at.held.ranges);
+    let found = visit::verdict_at(rules, outcomes, next, starts, ends, at.counts.ranges);
     let place = widths::JOURNAL_ENTRY * visits;
     journal[place] = next as u64;
     journal[place + 1] = visit::verdict_number(found);
@@ -63,7 +63,7 @@ fn visit_next<'a>(
 
 // Where a unit leaves the walk, by what it gave and the settings and counts after its controls.
 fn leave_unit(
-    at: Reached,
+    at: WalkState,
     u: UnitOutcome,
     h: ControlCounts,
     call: CallSettings,
@@ -72,7 +72,7 @@ fn leave_unit(
     actions: &[u64],
 ) -> AfterUnit
     requires { ⌜ (at .ids + u .ids < 2 ^ 64) × (at .entries + u .entries < 2 ^ 64) ⌝ }
-    ensures { λ r. ⌜ ((markers text outcomes : List ℕ) (rest : Rest) → rest .status ≡ call .status
+    ensures { λ r. ⌜ ((markers text outcomes : List ℕ) (rest : Rest) → rest .status ≡ call .«default_status»
         → r ≡ leftUnder (modeOr (modeOfNumber (call .mode)) (h .settings .mode))
         (callWith (call .phase) (now (rules .entry)) (now (actions .entry)) markers text outcomes rest) (matchedIn (journalList (now (members .entry)))) at u h) ⌝ }
 {
@@ -83,12 +83,12 @@ fn leave_unit(
         chained: at.state.chained,
         first: at.state.first,
     };
-    let moved = Reached {
+    let moved = WalkState {
         state,
         visits: at.visits,
         ids: at.ids + u.ids,
         entries: at.entries + u.entries,
-        held: h,
+        counts: h,
     };
     if end.last {
         let ending = end.ending;
@@ -98,7 +98,7 @@ fn leave_unit(
             rules,
             actions,
             call.phase,
-            call.status,
+            call.default_status,
         );
         return AfterUnit::Ends(End {
             ending,
@@ -112,7 +112,7 @@ fn leave_unit(
 // Closes the unit whose last rule was visited: its id and data entries are written at the free ends of their lists, and its
 // controls apply; then its flow and its disruptive action say where the walk is left.
 fn finish_unit(
-    at: Reached,
+    at: WalkState,
     call: CallSettings,
     rules: &[u64],
     actions: &[u64],
@@ -129,7 +129,7 @@ fn finish_unit(
     positions: &mut [u64; limits::TARGETS],
 ) -> AfterUnit
     requires { ⌜ Room at (now ids) (now entries) (now journal) ⌝ }
-    ensures { λ r. ⌜ ((rest : Rest) → rest .mode ≡ call .mode → rest .status ≡ call .status
+    ensures { λ r. ⌜ ((rest : Rest) → rest .mode ≡ call .mode → rest .status ≡ call .«default_status»
         → UnitClosed (callWith (call .phase) (now (rules .entry)) (now (actions .entry)) (now (markers .entry)) (now (text .entry)) (now (outcomes .entry)) rest)
         (now (codes .entry)) at (now (ids .entry)) (now (entries .entry)) (now (journal .entry)) (now (starts .entry)) (now (ends .entry)) (now (phases .entry)) (now (positions .entry))
         r (now (ids .exit)) (now (entries .exit)) (now (starts .exit)) (now (ends .exit)) (now (phases .exit)) (now (positions .exit))) ⌝ }
@@ -151,9 +151,9 @@ fn finish_unit(
         &mut ids[listed..],
         &mut entries[free..],
     );
-    let held = at.held;
+    let counts = at.counts;
     let h = run::unit_controls(
-        held,
+        counts,
         members,
         rules,
         actions,
@@ -169,11 +169,11 @@ fn finish_unit(
 }
 
 // Before the first rule.
-fn start(c: Controls, ids: usize, entries: usize) -> Reached
+fn start(c: Controls, ids: usize, entries: usize) -> WalkState
     ensures { λ r. ⌜ r ≡ startOf c ids entries ⌝ }
 {
     let settings = c.settings;
-    Reached {
+    WalkState {
         state: State {
             next: 0,
             chained: false,
@@ -182,7 +182,7 @@ fn start(c: Controls, ids: usize, entries: usize) -> Reached
         visits: 0,
         ids,
         entries,
-        held: ControlCounts {
+        counts: ControlCounts {
             settings,
             ranges: c.ranges,
             targets: c.targets,
@@ -191,7 +191,7 @@ fn start(c: Controls, ids: usize, entries: usize) -> Reached
 }
 
 // An end without an intervention.
-fn end_at(ending: Ending, at: Reached) -> End
+fn end_at(ending: Ending, at: WalkState) -> End
     ensures { λ r. ⌜ r ≡ record { ending = ending; at = at; stop = OptionIntervention.None } ⌝ }
 {
     End {
@@ -204,9 +204,9 @@ fn end_at(ending: Ending, at: Reached) -> End
 // The walk from the first rule on, where nothing stands against it. The controls' arrays are locals, lent where they are read
 // and where a closed unit changes them; the struct is made up again at the end.
 pub fn walk_rules(
-    held: Controls,
-    listed_before: usize,
-    written_before: usize,
+    controls: Controls,
+    ids_before: usize,
+    entries_before: usize,
     call: CallSettings,
     rules: &[u64],
     actions: &[u64],
@@ -218,15 +218,15 @@ pub fn walk_rules(
     entries: &mut [u64],
     journal: &mut [u64],
 ) -> Phase
-    requires { ⌜ (let t = fresh held «listed_before» «written_before» in Ready (callOf (call .phase) (call .mode) (call .status) (now rules) (now actions) (now markers) (now text) (now outcomes) t (now ids) (now entries) (now journal)) t (now codes) (now ids) (now entries) (now journal)) ⌝ }
-    ensures { λ r. ⌜ (let t = fresh held «listed_before» «written_before» in Walked (callOf (call .phase) (call .mode) (call .status) (now (rules .entry)) (now (actions .entry)) (now (markers .entry)) (now (text .entry)) (now (outcomes .entry)) t (now (ids .entry)) (now (entries .entry)) (now (journal .entry)))
+    requires { ⌜ (let t = fresh controls «ids_before» «entries_before» in Ready (callOf (call .phase) (call .mode) (call .«default_status») (now rules) (now actions) (now markers) (now text) (now outcomes) t (now ids) (now entries) (now journal)) t (now codes) (now ids) (now entries) (now journal)) ⌝ }
+    ensures { λ r. ⌜ (let t = fresh controls «ids_before» «entries_before» in Walked (callOf (call .phase) (call .mode) (call .«default_status») (now (rules .entry)) (now (actions .entry)) (now (markers .entry)) (now (text .entry)) (now (outcomes .entry)) t (now (ids .entry)) (now (entries .entry)) (now (journal .entry)))
         t (now (ids .entry)) (now (entries .entry)) (now (journal .entry)) r (now (ids .exit)) (now (entries .exit)) (now (journal .exit))) ⌝ }
 {
-    let mut starts = held.starts;
-    let mut ends = held.ends;
-    let mut phases = held.phases;
-    let mut positions = held.positions;
-    let mut at = start(held, listed_before, written_before);
+    let mut starts = controls.starts;
+    let mut ends = controls.ends;
+    let mut phases = controls.phases;
+    let mut positions = controls.positions;
+    let mut at = start(controls, ids_before, entries_before);
     let n = rules.len() / widths::RULE;
     while at.state.next < n {
         let v = visit_next(at, rules, outcomes, &starts, &ends, journal);

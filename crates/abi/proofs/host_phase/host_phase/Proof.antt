@@ -33,7 +33,7 @@ entered c = begun (read c .before .before .before)
 abbrev callAt : tie.Start → List ℕ → Transaction → Call
 callAt s words t =
     let a = s .args in
-    callOf (a .phase) (a .mode) (a .status) (now (a .rules)) (now (a .actions)) words (now (a .text)) (now (a .outcomes)) t
+    callOf (a .phase) (a .mode) (a .default-status) (now (a .rules)) (now (a .actions)) words (now (a .text)) (now (a .outcomes)) t
     (now (a .ids)) (now (a .entries)) (now (a .journal))
 
 -- the arrays of a record and of a transaction are as long as their types say
@@ -104,7 +104,7 @@ unknown : (c : tie.After-unknown-answer) → Unknown c
 unknown c =
     let k = c .before .before .before .before in
     let a = begun (k .before) .args in
-    ran-unknown (a .phase) (a .mode) (a .status) (now (a .rules)) (now (a .actions)) (now (k .before .lent-words .result)) (now (a .text))
+    ran-unknown (a .phase) (a .mode) (a .default-status) (now (a .rules)) (now (a .actions)) (now (k .before .lent-words .result)) (now (a .text))
     (now (a .outcomes)) (a .h) (now (a .ids)) (now (a .entries)) (now (a .journal))
     (c .unknown-answer .result) (c .before .before .counts-of .result) (c .before .sizes-of .result) (c .before .before .counts-of .ensures)
     (c .before .sizes-of .ensures) (sym (k .is-known .ensures) ∙ not-true _ (c .before .before .before .if1 .taken)) (c .unknown-answer .ensures)

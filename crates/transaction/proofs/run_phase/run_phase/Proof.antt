@@ -25,7 +25,7 @@ given c =
     record {
       phase = c .args .phase;
       mode = c .args .mode;
-      status = c .args .status;
+      status = c .args .default-status;
       rules = now (c .args .rules);
       actions = now (c .args .actions);
       markers = now (c .args .markers);

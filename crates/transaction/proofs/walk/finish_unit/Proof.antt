@@ -41,8 +41,8 @@ anyRest c =
     let a = c .args in
     record {
       mode = a .call .mode;
-      status = a .call .status;
-      transaction = transactionOf (fresh (structOf (a .at .held) (now (a .starts)) (now (a .ends)) (now (a .phases)) (now (a .positions))) 0 0);
+      status = a .call .«default_status»;
+      transaction = transactionOf (fresh (structOf (a .at .counts) (now (a .starts)) (now (a .ends)) (now (a .phases)) (now (a .positions))) 0 0);
       ids = [];
       data-entries = [];
       journal = [];
@@ -129,10 +129,10 @@ returns c = λ rest mode status.
     let lists = u .close-unit .last .1 .1 .1 .1 .1 .1 .1 .1 in
     let arrays = x .unit-controls .last .1 .1 .1 .1 .1 .1 .1 in
     let q = callWith (a .call .phase) (now (a .rules)) (now (a .actions)) (now (a .markers)) (now (a .text)) (now (a .outcomes)) rest in
-    let held = structOf (x .unit-controls .result) (arrays .0) (arrays .1 .0) (arrays .1 .1 .0) (arrays .1 .1 .1 .0) in
+    let counts = structOf (x .unit-controls .result) (arrays .0) (arrays .1 .0) (arrays .1 .1 .0) (arrays .1 .1 .1 .0) in
     record {
       gave = u .close-unit .result;
-      held = x .unit-controls .result;
+      counts = x .unit-controls .result;
       free-ids = lists .0;
       free-entries = lists .1 .0;
       wrote = rw (lent-is ids (a .at .ids), lent-is entries (4 * a .at .entries)) at (u .close-unit .ensures rest);
@@ -142,7 +142,7 @@ returns c = λ rest mode status.
       left-is =
           c .leave-unit .ensures (now (a .markers)) (now (a .text)) (now (a .outcomes)) rest status
           ∙ ap (λ (m : RuleEngineMode). leftUnder m q (membersAt (a .at) (now (a .journal))) (a .at) (u .close-unit .result)
-          (x .unit-controls .result)) (mode-law q held (modeOfNumber (a .call .mode)) _ (ap modeOfNumber (sym mode)) refl);
+          (x .unit-controls .result)) (mode-law q counts (modeOfNumber (a .call .mode)) _ (ap modeOfNumber (sym mode)) refl);
     }
 
 pub finish-unit-spec : {M : Type 1} → statement M

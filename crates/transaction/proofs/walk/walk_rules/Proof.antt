@@ -17,7 +17,7 @@ use Rattle.unit.specs.MemberList.{Rest}
 use Rattle.unit.specs.declared.visit.VisitOutcome.{VisitOutcome}
 use Rattle.unit.specs.VisitRule.{foundAt}
 use Rattle.transaction.specs.declared.types.Phase.{Phase}
-use Rattle.transaction.specs.declared.types.Reached.{Reached}
+use Rattle.transaction.specs.declared.types.WalkState.{WalkState}
 use Rattle.transaction.specs.declared.types.Transaction.{Transaction}
 use Rattle.transaction.specs.RunPhase.{callOf}
 use Rattle.transaction.specs.WalkRules.{fresh, Ready, Walked, UnitClosed}
@@ -41,15 +41,15 @@ restOf q = record {
 }
 
 abbrev Inv-loop : tie.InvT-loop
-Inv-loop listed-before written-before call rules actions markers text outcomes codes ids₀ entries₀ journal₀ starts₀ ends₀ phases₀ positions₀
+Inv-loop ids-before entries-before call rules actions markers text outcomes codes ids₀ entries₀ journal₀ starts₀ ends₀ phases₀ positions₀
     at₀ n ids entries journal starts ends phases positions at =
-    let t = fresh (structOf (at₀ .held) starts₀ ends₀ phases₀ positions₀) listed-before written-before in
-    Sofar (callOf (call .phase) (call .mode) (call .status) rules actions markers text outcomes t ids₀ entries₀ journal₀) t ids₀
-    entries₀ journal₀ ids entries journal (structOf (at .held) starts ends phases positions) (at .state) (at .visits) (at .ids)
+    let t = fresh (structOf (at₀ .counts) starts₀ ends₀ phases₀ positions₀) ids-before entries-before in
+    Sofar (callOf (call .phase) (call .mode) (call .«default_status») rules actions markers text outcomes t ids₀ entries₀ journal₀) t ids₀
+    entries₀ journal₀ ids entries journal (structOf (at .counts) starts ends phases positions) (at .state) (at .visits) (at .ids)
     (at .entries)
 
 abbrev μ-loop : tie.MeasureT-loop
-μ-loop listed-before written-before call rules actions markers text outcomes codes ids₀ entries₀ journal₀ starts₀ ends₀ phases₀ positions₀
+μ-loop ids-before entries-before call rules actions markers text outcomes codes ids₀ entries₀ journal₀ starts₀ ends₀ phases₀ positions₀
     at₀ n ids entries journal starts ends phases positions at =
     length rules / 5 - at .state .next
 
@@ -75,24 +75,24 @@ closing c = c .before .before .before .before .before .before .before .before
 
 -- the call and the transaction, by the controls at the start
 abbrev callBy : tie.Start Inv-loop μ-loop → Controls → Call
-callBy c held =
+callBy c controls =
     let a = c .args in
-    callOf (a .call .phase) (a .call .mode) (a .call .status) (now (a .rules)) (now (a .actions)) (now (a .markers)) (now (a .text))
-    (now (a .outcomes)) (fresh held (a .listed-before) (a .written-before)) (now (a .ids)) (now (a .entries)) (now (a .journal))
+    callOf (a .call .phase) (a .call .mode) (a .call .«default_status») (now (a .rules)) (now (a .actions)) (now (a .markers)) (now (a .text))
+    (now (a .outcomes)) (fresh controls (a .ids-before) (a .entries-before)) (now (a .ids)) (now (a .entries)) (now (a .journal))
 
 -- the controls that `start` and the arrays make up are those that were passed
 abbrev first : tie.After-start Inv-loop μ-loop → Controls
 first c =
-    let held = entered c .args .held in
-    structOf (c .start .result .held) (held .starts) (held .ends) (held .phases) (held .positions)
+    let controls = entered c .args .controls in
+    structOf (c .start .result .counts) (controls .starts) (controls .ends) (controls .phases) (controls .positions)
 
-first-is : (c : tie.After-start Inv-loop μ-loop) → first c ≡ entered c .args .held
+first-is : (c : tie.After-start Inv-loop μ-loop) → first c ≡ entered c .args .controls
 first-is c =
-    let held = entered c .args .held in
-    ap (λ (r : Reached). structOf (r .held) (held .starts) (held .ends) (held .phases) (held .positions)) (c .start .ensures)
+    let controls = entered c .args .controls in
+    ap (λ (r : WalkState). structOf (r .counts) (controls .starts) (controls .ends) (controls .phases) (controls .positions)) (c .start .ensures)
 
 abbrev T : tie.After-start Inv-loop μ-loop → Transaction
-T c = fresh (first c) (entered c .args .listed-before) (entered c .args .written-before)
+T c = fresh (first c) (entered c .args .ids-before) (entered c .args .entries-before)
 
 abbrev Q : tie.After-start Inv-loop μ-loop → Call
 Q c = callBy (entered c) (first c)
@@ -101,23 +101,23 @@ ready : (c : tie.After-start Inv-loop μ-loop) → Ready (Q c) (T c) (now (enter
     (now (entered c .args .entries)) (now (entered c .args .journal))
 ready c =
     let a = entered c .args in
-    subst (λ (y : Controls). Ready (callBy (entered c) y) (fresh y (a .listed-before) (a .written-before)) (now (a .codes))
+    subst (λ (y : Controls). Ready (callBy (entered c) y) (fresh y (a .ids-before) (a .entries-before)) (now (a .codes))
     (now (a .ids)) (now (a .entries)) (now (a .journal))) (sym (first-is c)) (entered c .pre)
 
 walked : (c : tie.After-start Inv-loop μ-loop) (r : Phase) (ids entries journal : List ℕ)
     → Walked (Q c) (T c) (now (entered c .args .ids)) (now (entered c .args .entries)) (now (entered c .args .journal)) r ids entries
     journal
     → (let a = entered c .args in
-    Walked (callBy (entered c) (a .held)) (fresh (a .held) (a .listed-before) (a .written-before)) (now (a .ids)) (now (a .entries))
+    Walked (callBy (entered c) (a .controls)) (fresh (a .controls) (a .ids-before) (a .entries-before)) (now (a .ids)) (now (a .entries))
     (now (a .journal)) r ids entries journal)
 walked c r ids entries journal =
     let a = entered c .args in
-    subst (λ (y : Controls). Walked (callBy (entered c) y) (fresh y (a .listed-before) (a .written-before)) (now (a .ids))
+    subst (λ (y : Controls). Walked (callBy (entered c) y) (fresh y (a .ids-before) (a .entries-before)) (now (a .ids))
     (now (a .entries)) (now (a .journal)) r ids entries journal) (first-is c)
 
 -- the controls that the locals make up, at the head of a turn
 abbrev held-at : (c : tie.At-loop Inv-loop μ-loop) → Controls
-held-at c = structOf (c .loop .at .held) (c .loop .starts) (c .loop .ends) (c .loop .phases) (c .loop .positions)
+held-at c = structOf (c .loop .at .counts) (c .loop .starts) (c .loop .ends) (c .loop .phases) (c .loop .positions)
 
 -- the turn, given what is found of its rule
 abbrev turn-by : (c : tie.Then1 Inv-loop μ-loop) (w : VisitOutcome)
@@ -200,7 +200,7 @@ start-requires c κs = tt
 loop-holds : tie.Need-loop-holds Inv-loop μ-loop
 loop-holds c =
     let a = entered c .args in
-    subst (λ (r : Reached). Sofar (Q c) (T c) (now (a .ids)) (now (a .entries)) (now (a .journal)) (now (a .ids)) (now (a .entries))
+    subst (λ (r : WalkState). Sofar (Q c) (T c) (now (a .ids)) (now (a .entries)) (now (a .journal)) (now (a .ids)) (now (a .entries))
     (now (a .journal)) (first c) (r .state) (r .visits) (r .ids) (r .entries)) (sym (c .start .ensures))
     (sofar-none (Q c) (T c) (now (a .codes)) (now (a .ids)) (now (a .entries)) (now (a .journal)) refl (ready c))
 
@@ -272,7 +272,7 @@ finish-unit-requires c κs =
     let x = c .before .before .before .before .before .before .before in
     let v = at-else x in
     let l = head (turning v) .loop in
-    room-closed (turn v) (journal-with v) (v .visit-next .ensures .1) (closes x) (l .at .held) (l .starts) (l .ends) (l .phases)
+    room-closed (turn v) (journal-with v) (v .visit-next .ensures .1) (closes x) (l .at .counts) (l .starts) (l .ends) (l .phases)
     (l .positions) refl
 
 -- what closing it left
@@ -282,7 +282,7 @@ unit-closed : (c : tie.After-finish-unit Inv-loop μ-loop)
     let after = c .finish-unit .last .1 .1 .1 .1 .1 .1 .1 .1 in
     let w = v .visit-next .result in
     UnitClosed (Q (head (turning v) .before)) (now (entered (head (turning v) .before) .args .codes))
-    (record { state = w .after; visits = l .at .visits + 1; ids = l .at .ids; entries = l .at .entries; held = l .at .held })
+    (record { state = w .after; visits = l .at .visits + 1; ids = l .at .ids; entries = l .at .entries; counts = l .at .counts })
     (l .ids) (l .entries) (journal-with v) (l .starts) (l .ends) (l .phases) (l .positions) (c .finish-unit .result)
     (after .0) (after .1 .0) (after .1 .1 .1 .0) (after .1 .1 .1 .1 .0) (after .1 .1 .1 .1 .1 .0) (after .1 .1 .1 .1 .1 .1 .0))
 unit-closed c = c .finish-unit .ensures (restOf (Q (head (turning (at-else (closing c))) .before))) refl refl
@@ -301,7 +301,7 @@ same-length-4 c = let k = c .before .before .before .before .before .before .bef
     let x = closing k in
     let v = at-else x in
     let l = head (turning v) .loop in
-    ids-closed (turn v) (journal-with v) (v .visit-next .ensures .1) (closes x) (l .at .held) (l .starts) (l .ends) (l .phases)
+    ids-closed (turn v) (journal-with v) (v .visit-next .ensures .1) (closes x) (l .at .counts) (l .starts) (l .ends) (l .phases)
     (l .positions) refl _ _ _ _ _ _ _ (unit-closed k)
 
 same-length-5 : tie.Need-same-length-5 Inv-loop μ-loop
@@ -309,7 +309,7 @@ same-length-5 c = let k = c .before .before .before .before .before .before .bef
     let x = closing k in
     let v = at-else x in
     let l = head (turning v) .loop in
-    entries-closed (turn v) (journal-with v) (v .visit-next .ensures .1) (closes x) (l .at .held) (l .starts) (l .ends) (l .phases)
+    entries-closed (turn v) (journal-with v) (v .visit-next .ensures .1) (closes x) (l .at .counts) (l .starts) (l .ends) (l .phases)
     (l .positions) refl _ _ _ _ _ _ _ (unit-closed k)
 
 same-length-6 : tie.Need-same-length-6 Inv-loop μ-loop
@@ -325,7 +325,7 @@ returns-2 c =
     let l = head (turning v) .loop in
     rw (c .ended2 .ensures)
     (walked (head (turning v) .before) _ _ _ _
-    (walked-closed (turn v) (journal-with v) (v .visit-next .ensures .1) (closes x) (l .at .held) (l .starts) (l .ends) (l .phases)
+    (walked-closed (turn v) (journal-with v) (v .visit-next .ensures .1) (closes x) (l .at .counts) (l .starts) (l .ends) (l .phases)
     (l .positions) refl _ _ _ _ _ _ _ (unit-closed k) _ (c .before .before .left2 .given .1)))
 
 loop-less-2 : tie.Need-loop-less-2 Inv-loop μ-loop
@@ -334,7 +334,7 @@ loop-less-2 c =
     let x = closing k in
     let v = at-else x in
     let l = head (turning v) .loop in
-    fewer-left-closed (turn v) (journal-with v) (v .visit-next .ensures .1) (closes x) (l .at .held) (l .starts) (l .ends) (l .phases)
+    fewer-left-closed (turn v) (journal-with v) (v .visit-next .ensures .1) (closes x) (l .at .counts) (l .starts) (l .ends) (l .phases)
     (l .positions) refl _ _ _ _ _ _ _ (unit-closed k) _ (c .before .left .given .1)
     (length (now (entered (head (turning v) .before) .args .rules)) / 5) (turning v .if1 .taken)
 
@@ -344,7 +344,7 @@ loop-again-2 c =
     let x = closing k in
     let v = at-else x in
     let l = head (turning v) .loop in
-    sofar-closed (turn v) (journal-with v) (v .visit-next .ensures .1) (closes x) (l .at .held) (l .starts) (l .ends) (l .phases)
+    sofar-closed (turn v) (journal-with v) (v .visit-next .ensures .1) (closes x) (l .at .counts) (l .starts) (l .ends) (l .phases)
     (l .positions) refl _ _ _ _ _ _ _ (unit-closed k) _ (c .before .left .given .1)
 
 -- NO RULE IS LEFT
