@@ -1,4 +1,4 @@
-// Questions to the controls for a rule. Each answers 3 where the controls are beyond their limits.
+// Questions to the controls: for a rule, for the removed targets, for the request's body. Each answers 3 where the controls are beyond their limits.
 use crate::fields;
 use crate::state::Controls;
 use reading::AccessSetting;

@@ -1,5 +1,5 @@
-// Questions to the controls of a host's record, by number: what all of them share, and those for the removed targets. Each
-// answers 3 where the controls are beyond their limits, and then 5 where a number of the record is not known.
+// Questions to the controls of a host's record, by number. Each answers 3 where the controls are beyond their limits, and then 5
+// where a number of the record is not known.
 use abi::host_controls;
 use abi::host_controls::HostControls;
 use abi::values;
