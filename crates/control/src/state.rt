@@ -61,9 +61,9 @@ impl Controls {
     pub fn set_engine_mode(mut self, mode: RuleEngineMode) -> Self
         ensures { λ r. ⌜ Became self r (withMode (controlsOf self) mode) ⌝ }
     {
-        let held = self.settings;
-        let access = held.access;
-        let processor = held.processor;
+        let settings = self.settings;
+        let access = settings.access;
+        let processor = settings.processor;
         let next = Settings {
             mode: ModeSetting::Set(mode),
             access,
@@ -76,9 +76,9 @@ impl Controls {
     pub fn set_request_body_access(mut self, access: BodyAccess) -> Self
         ensures { λ r. ⌜ Became self r (withAccess (controlsOf self) access) ⌝ }
     {
-        let held = self.settings;
-        let mode = held.mode;
-        let processor = held.processor;
+        let settings = self.settings;
+        let mode = settings.mode;
+        let processor = settings.processor;
         let next = Settings {
             mode,
             access: AccessSetting::Set(access),
@@ -91,9 +91,9 @@ impl Controls {
     pub fn set_request_body_processor(mut self, processor: BodyProcessor) -> Self
         ensures { λ r. ⌜ Became self r (withProcessor (controlsOf self) processor) ⌝ }
     {
-        let held = self.settings;
-        let mode = held.mode;
-        let access = held.access;
+        let settings = self.settings;
+        let mode = settings.mode;
+        let access = settings.access;
         let next = Settings {
             mode,
             access,

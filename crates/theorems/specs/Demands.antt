@@ -24,7 +24,7 @@ use Rattle.reading.specs.Demand3.{Demand3, StoppedBy, foundJournal}
 use Rattle.lists.proofs.Tests.{or-false-is}
 use Rattle.theorems.specs.Replayed.{Replayed, walk-replayed}
 use Rattle.theorems.specs.Rising.{indexes-rise}
-use Rattle.theorems.specs.Limits.{accepted-visits, length-journal}
+use Rattle.theorems.specs.WithinLimits.{accepted-visits, length-journal}
 use Rattle.theorems.specs.Answers.{ErrorFound, ten-only-after-error, zero-or-ten}
 
 take-front : {A : Type 0} (xs ys : List A) → take (length xs) (xs ++ ys) ≡ xs

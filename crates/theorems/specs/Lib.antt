@@ -1,8 +1,8 @@
 pub mod Replayed
 pub mod Rising
-pub mod Limits
+pub mod WithinLimits
 pub mod Answers
 pub mod Demands
 pub mod Readings
 pub mod FreeOutcomes
-pub mod Numbered
+pub mod KindNumbers

@@ -14,7 +14,7 @@ use Rattle.reading.specs.Controls as reading
 use Rattle.reading.specs.Call.{Call, ruleCount, modeUnder}
 use Rattle.reading.specs.Walk.{Visit, journalOf, idsOf, dataOf, controlsAfter, allowedBy}
 use Rattle.reading.specs.Walk.{interventionBy, answerBy, errorIndexBy, walk}
-use Rattle.theorems.specs.Limits.{length-journal}
+use Rattle.theorems.specs.WithinLimits.{length-journal}
 use Rattle.control.specs.declared.state.Controls.{Controls}
 use Rattle.control.specs.ControlsStruct.{controlsOf, Became}
 use Rattle.control.proofs.Chained.{became-same, became-ranges}

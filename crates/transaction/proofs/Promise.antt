@@ -21,8 +21,8 @@ use Rattle.reading.specs.Demand3.{Demand3}
 use Rattle.lists.proofs.Tests.{or-false}
 use Rattle.theorems.specs.Demands.{AsLent, demand3, refused-as-lent, idle-as-lent}
 use Rattle.theorems.specs.Demands.{none-held, or-none, refused-answer, idle-answer, accepted-answer}
-use Rattle.theorems.specs.Limits.{Passed, passed, next-one, Free, not-seventh, Within, accepted-within}
-use Rattle.theorems.specs.Limits.{accepted-visits, ids-within, data-within, visits-within, length-journal}
+use Rattle.theorems.specs.WithinLimits.{Passed, passed, next-one, Free, not-seventh, Within, accepted-within}
+use Rattle.theorems.specs.WithinLimits.{accepted-visits, ids-within, data-within, visits-within, length-journal}
 use Rattle.lists.proofs.RecordLaws.{length-records}
 use Rattle.unit.proofs.members.WordLaws.{journal-over, data-free-end}
 use Rattle.control.specs.ControlsStruct.{controlsOf, Became}

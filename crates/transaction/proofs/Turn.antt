@@ -32,7 +32,7 @@ use Rattle.reading.specs.Units.{isStopping}
 use Rattle.reading.specs.Walk.{Visit, isLast, entryOf, journalOf, idsOf, dataOf, controlsAfter, walk, verdictAt, visitAt}
 use Rattle.reading.specs.Walk.{afterFlow}
 use Rattle.lists.proofs.Tests.{or-false, or-false-is}
-use Rattle.theorems.specs.Limits.{length-journal}
+use Rattle.theorems.specs.WithinLimits.{length-journal}
 use Rattle.theorems.specs.Rising.{goes-ahead}
 use Rattle.control.specs.declared.state.Controls.{Controls}
 use Rattle.control.specs.ControlsStruct.{controlsOf, Became}

@@ -8,8 +8,8 @@ use Rattle.reading.specs.declared.FlowOutcome.{FlowOutcome}
 use Rattle.reading.specs.Numbers.{disruptiveKind, disruptiveValue, flowKind, flowValue}
 
 -- the case of a number and a value
-abbrev disruptiveNumbered : ℕ → ℕ → DisruptiveOutcome
-disruptiveNumbered kind value =
+abbrev disruptiveOf : ℕ → ℕ → DisruptiveOutcome
+disruptiveOf kind value =
     cond (eqb kind 1) DisruptiveOutcome.Deny
     (cond (eqb kind 2) DisruptiveOutcome.Block
     (cond (eqb kind 3) DisruptiveOutcome.Pass
@@ -17,7 +17,7 @@ disruptiveNumbered kind value =
     (cond (eqb kind 5) (DisruptiveOutcome.Redirect value)
     (cond (eqb kind 6) DisruptiveOutcome.Drop DisruptiveOutcome.Nothing)))))
 
-disruptive-back : (d : DisruptiveOutcome) → disruptiveNumbered (disruptiveKind d) (disruptiveValue d) ≡ d
+disruptive-back : (d : DisruptiveOutcome) → disruptiveOf (disruptiveKind d) (disruptiveValue d) ≡ d
 disruptive-back DisruptiveOutcome.Nothing = refl
 disruptive-back DisruptiveOutcome.Deny = refl
 disruptive-back DisruptiveOutcome.Block = refl
@@ -29,17 +29,17 @@ disruptive-back DisruptiveOutcome.Drop = refl
 pub disruptive-determined : (d e : DisruptiveOutcome) → disruptiveKind d ≡ disruptiveKind e → disruptiveValue d ≡ disruptiveValue e → d ≡ e
 disruptive-determined d e kind value =
     sym (disruptive-back d)
-    ∙ ap (λ (n : ℕ). disruptiveNumbered n (disruptiveValue d)) kind
-    ∙ ap (disruptiveNumbered (disruptiveKind e)) value
+    ∙ ap (λ (n : ℕ). disruptiveOf n (disruptiveValue d)) kind
+    ∙ ap (disruptiveOf (disruptiveKind e)) value
     ∙ disruptive-back e
 
-abbrev flowNumbered : ℕ → ℕ → FlowOutcome
-flowNumbered kind value =
+abbrev flowOf : ℕ → ℕ → FlowOutcome
+flowOf kind value =
     cond (eqb kind 7) FlowOutcome.Chain
     (cond (eqb kind 8) (FlowOutcome.Skip value)
     (cond (eqb kind 9) (FlowOutcome.SkipAfter value) FlowOutcome.Continue))
 
-flow-back : (f : FlowOutcome) → flowNumbered (flowKind f) (flowValue f) ≡ f
+flow-back : (f : FlowOutcome) → flowOf (flowKind f) (flowValue f) ≡ f
 flow-back FlowOutcome.Continue = refl
 flow-back FlowOutcome.Chain = refl
 flow-back (FlowOutcome.Skip n) = refl
@@ -47,4 +47,4 @@ flow-back (FlowOutcome.SkipAfter at) = refl
 
 pub flow-determined : (f g : FlowOutcome) → flowKind f ≡ flowKind g → flowValue f ≡ flowValue g → f ≡ g
 flow-determined f g kind value =
-    sym (flow-back f) ∙ ap (λ (n : ℕ). flowNumbered n (flowValue f)) kind ∙ ap (flowNumbered (flowKind g)) value ∙ flow-back g
+    sym (flow-back f) ∙ ap (λ (n : ℕ). flowOf n (flowValue f)) kind ∙ ap (flowOf (flowKind g)) value ∙ flow-back g
