@@ -8,7 +8,7 @@ use lib.ListN.{length, take}
 use Rattle.reading.specs.declared.JournalEntry.{JournalEntry}
 use Rattle.reading.specs.declared.Intervention.{Intervention}
 use Rattle.reading.specs.Controls.{isOn}
-use Rattle.reading.specs.Call.{Call, ruleCount, modeUnder}
+use Rattle.reading.specs.Call.{Given, Call, Transaction, ruleCount, modeUnder}
 use Rattle.reading.specs.Units.{unitDisruptive, unitIntervention, isStopping}
 use Rattle.reading.specs.Walk.{walkOf, journalOf, isStopped}
 use Rattle.reading.specs.Replay.{lastClosed, replayedIds, replayedData, replayedControls, replayedAllow, replayedIntervention}
@@ -21,23 +21,23 @@ Rises n from (e ∷ es) = (from ≤ e .index) × (e .index < n) × Rises n (suc 
 
 -- the journal found: as many entries as were answered, from the start of its list
 abbrev pub foundJournal : Outcome → List JournalEntry
-foundJournal o = take (o .visits) (o .journal)
+foundJournal o = take (o .visits) (o .lists .journal)
 
 pub record Accounted (q : Call) (o : Outcome) : Type 0 where
   -- "its journal holds exactly the visits of demand 2's walk, each as rule index and verdict, in order"
-  pub visits : o .visits ≡ length (walkOf q)
-  pub journal : foundJournal o ≡ journalOf (walkOf q)
+  pub visits : o .visits ≡ length (walkOf (q .given) (q .transaction))
+  pub journal : foundJournal o ≡ journalOf (walkOf (q .given) (q .transaction))
   -- "the indexes strictly rising"
-  pub rising : Rises (ruleCount q) 0 (foundJournal o)
+  pub rising : Rises (ruleCount (q .given)) 0 (foundJournal o)
   -- "Ids, data, controls and allow are then those at entry plus what 01's closed units of that whole journal give, in order."
-  pub ids : o .ids ≡ atFreeEnd (q .transaction .ids) (q .ids) (replayedIds q (foundJournal o))
-  pub ids-used : o .transaction .ids ≡ q .transaction .ids + length (replayedIds q (foundJournal o))
-  pub data-entries : o .data-entries ≡ atFreeEnd (q .transaction .data-entries) (q .data-entries) (replayedData q (foundJournal o))
-  pub data-used : o .transaction .data-entries ≡ q .transaction .data-entries + length (replayedData q (foundJournal o))
-  pub controls : o .transaction .controls ≡ replayedControls q (foundJournal o)
-  pub allow : o .transaction .allowed ≡ replayedAllow q (foundJournal o)
+  pub ids : o .lists .ids ≡ atFreeEnd (q .transaction .ids) (q .lists .ids) (replayedIds (q .given) (foundJournal o))
+  pub ids-used : o .transaction .ids ≡ q .transaction .ids + length (replayedIds (q .given) (foundJournal o))
+  pub data-entries : o .lists .data-entries ≡ atFreeEnd (q .transaction .data-entries) (q .lists .data-entries) (replayedData (q .given) (foundJournal o))
+  pub data-used : o .transaction .data-entries ≡ q .transaction .data-entries + length (replayedData (q .given) (foundJournal o))
+  pub controls : o .transaction .controls ≡ replayedControls (q .given) (q .transaction) (foundJournal o)
+  pub allow : o .transaction .allowed ≡ replayedAllow (q .given) (foundJournal o)
   -- "An intervention is then found exactly when the last visit closed a unit .."
-  pub intervention : o .transaction .intervention ≡ replayedIntervention q (foundJournal o)
+  pub intervention : o .transaction .intervention ≡ replayedIntervention (q .given) (q .transaction) (foundJournal o)
 
 -- "if it answered 0 or 10 and was entered with no allow and no intervention"
 abbrev pub Demand3 : Call → Outcome → Type 0
@@ -46,9 +46,9 @@ Demand3 q o =
 
 -- a journal whose last entry closes a unit that stops the request with the intervention i: its starter's last disruptive
 -- action is deny, block, redirect or drop, and the mode after its controls is On
-pub record StoppedBy (q : Call) (journal : List JournalEntry) (i : Intervention) : Type 0 where
+pub record StoppedBy (g : Given) (t : Transaction) (journal : List JournalEntry) (i : Intervention) : Type 0 where
   pub unit : List ℕ
-  pub closed-last : lastClosed q journal ≡ unit ∷ []
-  pub stopping : isStopping (unitDisruptive q unit) ≡ true
-  pub mode-on : isOn (modeUnder q (replayedControls q journal)) ≡ true
-  pub built : i ≡ unitIntervention q unit
+  pub closed-last : lastClosed g journal ≡ unit ∷ []
+  pub stopping : isStopping (unitDisruptive g unit) ≡ true
+  pub mode-on : isOn (modeUnder g (replayedControls g t journal)) ≡ true
+  pub built : i ≡ unitIntervention g unit

@@ -15,7 +15,7 @@ use Rattle.reading.specs.Text.{idPart}
 use Rattle.reading.specs.Directive.{Directive, ruleRemoveById, unsupported, removalValue}
 use Rattle.reading.specs.Controls.{Controls, isOn}
 use Rattle.reading.specs.Actions.{Placed, lastOf, lastFlow, flowBy}
-use Rattle.reading.specs.Call.{Call}
+use Rattle.reading.specs.Call.{Given, Transaction}
 use Rattle.reading.specs.Units.{ruleControls, unitControls, isAllow, isStopping}
 use Rattle.reading.specs.Walk.{afterChain, isStopped}
 
@@ -25,9 +25,9 @@ abbrev pub manualJumps : ℕ → ℕ → Bool
 manualJumps position after = leb after position
 
 -- skip. The manual: skips one or more rules, or chains. From the index after the closing rule:
-unfoldable pub manualSkip : Call → ℕ → ℕ → ℕ
-manualSkip q after zero = after
-manualSkip q after (suc n) = manualSkip q (afterChain q after) n
+unfoldable pub manualSkip : Given → ℕ → ℕ → ℕ
+manualSkip g after zero = after
+manualSkip g after (suc n) = manualSkip g (afterChain g after) n
 
 -- 01: "Skip n passes n indexes; links count singly."
 abbrev pub rustSkip : ℕ → ℕ → ℕ
@@ -52,15 +52,15 @@ rustRedirectStatus last = 302
 
 -- chain. The manual: a non-disruptive action, ctl among them, is executed if the rule that contains it matches, and not
 -- only if the whole chain does. The controls after a matched rule m of a chain, whether it is a link or closes it:
-abbrev pub manualMatched : Call → ℕ → Controls → Controls
-manualMatched q m c = ruleControls q m c
+abbrev pub manualMatched : Given → ℕ → Controls → Controls
+manualMatched g m c = ruleControls g m c
 
 -- 01: "A matched link holds its controls and waits." The controls after a link, and after the unit that a rule closes:
 abbrev pub rustLink : Controls → Controls
 rustLink c = c
 
-abbrev pub rustClosed : Call → List ℕ → Controls → Controls
-rustClosed q unit c = unitControls q unit c
+abbrev pub rustClosed : Given → List ℕ → Controls → Controls
+rustClosed g unit c = unitControls g unit c
 
 -- chain, multiMatch. The manual: multiMatch says how variables are matched and chain that the next rule belongs to this
 -- one; skip and skipAfter of a chain's starter act if the whole chain matches. So the last of skip and skipAfter decides.
@@ -72,20 +72,20 @@ abbrev pub rustFlow : List Placed → FlowOutcome
 rustFlow ps = lastFlow ps
 
 -- phase 5. The manual: the logging phase is run for every transaction, whatever happened in it; allow passes the others.
-abbrev pub manualEnters : Call → Bool
-manualEnters q = eqb (q .phase) 5 || not (q .transaction .allowed || isStopped (q .transaction .intervention))
+abbrev pub manualEnters : Given → Transaction → Bool
+manualEnters g t = eqb (g .settings .phase) 5 || not (t .allowed || isStopped (t .intervention))
 
 -- 01: "Nothing is done if already allowed or stopped"
-abbrev pub rustEnters : Call → Bool
-rustEnters q = not (q .transaction .allowed || isStopped (q .transaction .intervention))
+abbrev pub rustEnters : Transaction → Bool
+rustEnters t = not (t .allowed || isStopped (t .intervention))
 
 -- phase 5. The manual: it is too late to stop a request there.
-abbrev pub manualStops : Call → Bool
-manualStops q = not (eqb (q .phase) 5)
+abbrev pub manualStops : Given → Bool
+manualStops g = not (eqb (g .settings .phase) 5)
 
 -- 01 makes no difference between phases
-abbrev pub rustStops : Call → Bool
-rustStops q = true
+abbrev pub rustStops : Given → Bool
+rustStops g = true
 
 -- ctl:ruleRemoveById. The manual: one id, or one range.
 abbrev pub manualRemovalBy : IdPart → Directive

@@ -7,13 +7,13 @@ use Rattle.reading.specs.declared.DataEntry.{DataEntry}
 use Rattle.reading.specs.declared.JournalEntry.{JournalEntry}
 use Rattle.reading.specs.declared.OptionIntervention.{OptionIntervention}
 use Rattle.reading.specs.Lists.{keep, over}
-use Rattle.reading.specs.Call.{Call, Transaction}
+use Rattle.reading.specs.Call.{Given, Call, Transaction, Lists}
 use Rattle.reading.specs.Refusals.{refusalOf, isAccepted}
 use Rattle.reading.specs.Walk.{Visit, walkOf, journalOf, idsOf, dataOf, controlsAfter, allowedBy, interventionBy, answerBy, errorIndexBy}
 
 -- the visits of a call: a refused one has none, so that whatever follows from them is as found
 unfoldable pub visitsOf : Call → List Visit
-visitsOf q = keep (isAccepted q) (walkOf q)
+visitsOf q = keep (isAccepted q) (walkOf (q .given) (q .transaction))
 
 -- a list whose first `used` entries stay, with new entries at its free end. 01: "Ids and data entries are written at the
 -- free end of the lent list. Entries not written stay as found"
@@ -28,21 +28,27 @@ pub record Outcome : Type 0 where
   -- 0, 10, or the number of a refusal, and the index of the rule that had the error
   pub answer : ℕ
   pub error : ℕ
-  -- how many entries the journal holds, and the three lists
+  -- how many entries the journal holds
   pub visits : ℕ
-  pub journal : List JournalEntry
-  pub ids : List ℕ
-  pub data-entries : List DataEntry
   pub transaction : Transaction
+  pub lists : Lists
 
 -- the transaction after visits
-abbrev pub transactionAfter : Call → List Visit → Transaction
-transactionAfter q vs = record {
-  controls = controlsAfter (q .transaction .controls) vs;
-  allowed = q .transaction .allowed || allowedBy vs;
-  intervention = ifNone (interventionBy vs) (q .transaction .intervention);
-  ids = q .transaction .ids + length (idsOf q vs);
-  data-entries = q .transaction .data-entries + length (dataOf q vs);
+abbrev pub transactionAfter : Given → Transaction → List Visit → Transaction
+transactionAfter g t vs = record {
+  controls = controlsAfter (t .controls) vs;
+  allowed = t .allowed || allowedBy vs;
+  intervention = ifNone (interventionBy vs) (t .intervention);
+  ids = t .ids + length (idsOf g vs);
+  data-entries = t .data-entries + length (dataOf g vs);
+}
+
+-- the lists after visits
+abbrev pub listsAfter : Given → Transaction → Lists → List Visit → Lists
+listsAfter g t lent vs = record {
+  ids = atFreeEnd (t .ids) (lent .ids) (idsOf g vs);
+  data-entries = atFreeEnd (t .data-entries) (lent .data-entries) (dataOf g vs);
+  journal = over (lent .journal) (journalOf vs);
 }
 
 unfoldable pub outcomeOf : Call → Outcome
@@ -52,8 +58,6 @@ outcomeOf q =
       answer = cond (isAccepted q) (answerBy vs) (refusalOf q);
       error = errorIndexBy vs;
       visits = length vs;
-      journal = over (q .journal) (journalOf vs);
-      ids = atFreeEnd (q .transaction .ids) (q .ids) (idsOf q vs);
-      data-entries = atFreeEnd (q .transaction .data-entries) (q .data-entries) (dataOf q vs);
-      transaction = transactionAfter q vs;
+      transaction = transactionAfter (q .given) (q .transaction) vs;
+      lists = listsAfter (q .given) (q .transaction) (q .lists) vs;
     }

@@ -13,27 +13,27 @@ use Rattle.reading.specs.Directive.{Directive, isHigh, rangeCount, targe
 use Rattle.reading.specs.Limits.{mostRules, mostActions, mostMarkers, mostBytes, mostRanges, mostTargets}
 use Rattle.reading.specs.Controls.{beyondLimits}
 use Rattle.reading.specs.Actions.{actionsOf, controlsIn, directiveIn}
-use Rattle.reading.specs.Call.{Call, ruleCount}
+use Rattle.reading.specs.Call.{Given, Call, ruleCount}
 
 -- 1. "The phase is not 1 to 5, or the rule set's mode is not 0 (On), 1 (DetectionOnly) or 2 (Off)."
 unfoldable pub refused1 : Call → Bool
-refused1 q = ltb (q .phase) 1 || ltb 5 (q .phase) || ltb 2 (q .mode)
+refused1 q = ltb (q .given .settings .phase) 1 || ltb 5 (q .given .settings .phase) || ltb 2 (q .given .settings .mode)
 
 -- 2. "There are more than 512 rules, 4,096 actions, 256 markers or 65,536 text bytes."
 unfoldable pub refused2 : Call → Bool
 refused2 q =
-    ltb mostRules (ruleCount q) || ltb mostActions (length (q .actions)) || ltb mostMarkers (length (q .markers)) || ltb mostBytes (length (q .text))
+    ltb mostRules (ruleCount (q .given)) || ltb mostActions (length (q .given .actions)) || ltb mostMarkers (length (q .given .markers)) || ltb mostBytes (length (q .given .text))
 
 -- 3. "The transaction counts more than 256 ranges, more than 64 targets, or more entries than a lent list has."
 unfoldable pub refused3 : Call → Bool
 refused3 q =
     beyondLimits (q .transaction .controls)
-    || ltb (length (q .ids)) (q .transaction .ids)
-    || ltb (length (q .data-entries)) (q .transaction .data-entries)
+    || ltb (length (q .lists .ids)) (q .transaction .ids)
+    || ltb (length (q .lists .data-entries)) (q .transaction .data-entries)
 
 -- 4. "The outcomes are not as many as the rules."
 unfoldable pub refused4 : Call → Bool
-refused4 q = not (eqb (length (q .outcomes)) (ruleCount q))
+refused4 q = not (eqb (length (q .given .outcomes)) (ruleCount (q .given)))
 
 -- "a part outside its list or text": one that ends after a list of so many entries
 abbrev pub outside : ℕ → ℕ → ℕ → Bool
@@ -70,33 +70,33 @@ badOutcome outcome = ltb 3 outcome
 -- marker position above the rule count."
 unfoldable pub refused5 : Call → Bool
 refused5 q =
-    any (badRule (length (q .actions))) (q .rules)
-    || any (badAction (length (q .text))) (q .actions)
-    || any (badMarker (length (q .text)) (ruleCount q)) (q .markers)
-    || any badOutcome (q .outcomes)
+    any (badRule (length (q .given .actions))) (q .given .rules)
+    || any (badAction (length (q .given .text))) (q .given .actions)
+    || any (badMarker (length (q .given .text)) (ruleCount (q .given))) (q .given .markers)
+    || any badOutcome (q .given .outcomes)
 
 -- 6. "The text has a byte of 80 (hexadecimal) or more."
 unfoldable pub refused6 : Call → Bool
-refused6 q = any isHigh (q .text)
+refused6 q = any isHigh (q .given .text)
 
 -- 7. "The ids, data or journal list has fewer free entries than there are rules."
 unfoldable pub refused7 : Call → Bool
 refused7 q =
-    ltb (length (q .ids)) (q .transaction .ids + ruleCount q)
-    || ltb (length (q .data-entries)) (q .transaction .data-entries + ruleCount q)
-    || ltb (length (q .journal)) (ruleCount q)
+    ltb (length (q .lists .ids)) (q .transaction .ids + ruleCount (q .given))
+    || ltb (length (q .lists .data-entries)) (q .transaction .data-entries + ruleCount (q .given))
+    || ltb (length (q .lists .journal)) (ruleCount (q .given))
 
 -- what all ctl actions of a rule give, each counted by its directive: 0 where it is unsupported
-unfoldable pub ruleTotal : Call → (Directive → ℕ) → Rule → ℕ
-ruleTotal q counted r = total (λ p. counted (directiveIn (q .text) p)) (controlsIn (actionsOf (q .actions) r))
+unfoldable pub ruleTotal : Given → (Directive → ℕ) → Rule → ℕ
+ruleTotal g counted r = total (λ p. counted (directiveIn (g .text) p)) (controlsIn (actionsOf (g .actions) r))
 
 -- 8. "Held ranges plus those of all supported ruleRemoveById actions, counted rule by rule, exceed 256."
 unfoldable pub refused8 : Call → Bool
-refused8 q = ltb mostRanges (length (q .transaction .controls .ranges) + total (ruleTotal q rangeCount) (q .rules))
+refused8 q = ltb mostRanges (length (q .transaction .controls .ranges) + total (ruleTotal (q .given) rangeCount) (q .given .rules))
 
 -- 9. "Held targets plus those of all supported target actions, counted rule by rule, exceed 64."
 unfoldable pub refused9 : Call → Bool
-refused9 q = ltb mostTargets (length (q .transaction .controls .targets) + total (ruleTotal q targetCount) (q .rules))
+refused9 q = ltb mostTargets (length (q .transaction .controls .targets) + total (ruleTotal (q .given) targetCount) (q .given .rules))
 
 -- 01: "Number and order agree; the first that applies is the answer, else 0 or 10." 0: none applies.
 unfoldable pub refusalOf : Call → ℕ

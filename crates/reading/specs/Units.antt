@@ -14,7 +14,7 @@ use Rattle.reading.specs.Lists.{gather, keep}
 use Rattle.reading.specs.Numbers.{listOf, presentNumber, numberOrZero}
 use Rattle.reading.specs.Controls.{Controls, applied}
 use Rattle.reading.specs.Actions.{Placed, controlsIn, directiveIn, lastDisruptive, lastFlow, metadataOf, lastStatus}
-use Rattle.reading.specs.Call.{Call, idAt, outcomeAt, actionsAt}
+use Rattle.reading.specs.Call.{Given, idAt, outcomeAt, actionsAt}
 
 -- the first member; no unit is without one, and 0 stands where there is none
 abbrev pub starterOf : List ℕ → ℕ
@@ -28,8 +28,8 @@ closerOf (m ∷ []) = m
 closerOf (m ∷ n ∷ ms) = closerOf (n ∷ ms)
 
 -- 01: "A closed unit gives the starter's id if any"
-abbrev pub unitIds : Call → List ℕ → List ℕ
-unitIds q unit = listOf (idAt q (starterOf unit))
+abbrev pub unitIds : Given → List ℕ → List ℕ
+unitIds g unit = listOf (idAt g (starterOf unit))
 
 -- 01: "own id, else the starter's, else none"
 abbrev pub ownOr : OptionU64 → OptionU64 → OptionU64
@@ -37,38 +37,38 @@ ownOr OptionU64.None starter = starter
 ownOr (OptionU64.Some own) starter = OptionU64.Some own
 
 -- 01: "Data entry: id or none, phase, rule index"
-abbrev pub dataEntry : Call → ℕ → ℕ → DataEntry
-dataEntry q starter m =
-    let id = ownOr (idAt q m) (idAt q starter) in
-    record { present = presentNumber id; id = numberOrZero id; phase = q .phase; index = m }
+abbrev pub dataEntry : Given → ℕ → ℕ → DataEntry
+dataEntry g starter m =
+    let id = ownOr (idAt g m) (idAt g starter) in
+    record { present = presentNumber id; id = numberOrZero id; phase = g .settings .phase; index = m }
 
 -- "one data entry for each member with outcome 2"
-abbrev pub memberData : Call → ℕ → ℕ → List DataEntry
-memberData q starter m = keep (eqb (outcomeAt q m) 2) (dataEntry q starter m ∷ [])
+abbrev pub memberData : Given → ℕ → ℕ → List DataEntry
+memberData g starter m = keep (eqb (outcomeAt g m) 2) (dataEntry g starter m ∷ [])
 
-abbrev pub unitData : Call → List ℕ → List DataEntry
-unitData q unit = gather (memberData q (starterOf unit)) unit
+abbrev pub unitData : Given → List ℕ → List DataEntry
+unitData g unit = gather (memberData g (starterOf unit)) unit
 
 -- the controls after control actions, in their order
-abbrev pub actionControls : Call → List Placed → Controls → Controls
-actionControls q [] c = c
-actionControls q (p ∷ ps) c =
-    actionControls q ps (applied c (record { phase = q .phase; position = p .position }) (directiveIn (q .text) p))
+abbrev pub actionControls : Given → List Placed → Controls → Controls
+actionControls g [] c = c
+actionControls g (p ∷ ps) c =
+    actionControls g ps (applied c (record { phase = g .settings .phase; position = p .position }) (directiveIn (g .text) p))
 
-unfoldable pub ruleControls : Call → ℕ → Controls → Controls
-ruleControls q m c = actionControls q (controlsIn (actionsAt q m)) c
+unfoldable pub ruleControls : Given → ℕ → Controls → Controls
+ruleControls g m c = actionControls g (controlsIn (actionsAt g m)) c
 
 -- "all members' controls in order"
-abbrev pub unitControls : Call → List ℕ → Controls → Controls
-unitControls q [] c = c
-unitControls q (m ∷ ms) c = unitControls q ms (ruleControls q m c)
+abbrev pub unitControls : Given → List ℕ → Controls → Controls
+unitControls g [] c = c
+unitControls g (m ∷ ms) c = unitControls g ms (ruleControls g m c)
 
 -- 01: "Flow, disruptive action and metadata are the starter's."
-unfoldable pub unitFlow : Call → List ℕ → FlowOutcome
-unitFlow q unit = lastFlow (actionsAt q (starterOf unit))
+unfoldable pub unitFlow : Given → List ℕ → FlowOutcome
+unitFlow g unit = lastFlow (actionsAt g (starterOf unit))
 
-unfoldable pub unitDisruptive : Call → List ℕ → DisruptiveOutcome
-unitDisruptive q unit = lastDisruptive (actionsAt q (starterOf unit))
+unfoldable pub unitDisruptive : Given → List ℕ → DisruptiveOutcome
+unitDisruptive g unit = lastDisruptive (actionsAt g (starterOf unit))
 
 -- "and allow if that is the starter's last disruptive action"
 abbrev pub isAllow : DisruptiveOutcome → Bool
@@ -94,14 +94,14 @@ isStopping DisruptiveOutcome.Drop = true
 
 -- 01: "Redirect has status 302, drop 444 with the connection dropped, block the caller's default status"; deny by the reading.
 -- 0 stands for what does not stop; it is never asked there
-abbrev pub stopStatus : Call → List Placed → DisruptiveOutcome → ℕ
-stopStatus q ps DisruptiveOutcome.Nothing = 0
-stopStatus q ps DisruptiveOutcome.Deny = q .reading .status (lastStatus ps)
-stopStatus q ps DisruptiveOutcome.Block = q .status
-stopStatus q ps DisruptiveOutcome.Pass = 0
-stopStatus q ps DisruptiveOutcome.Allow = 0
-stopStatus q ps (DisruptiveOutcome.Redirect at) = 302
-stopStatus q ps DisruptiveOutcome.Drop = 444
+abbrev pub stopStatus : Given → List Placed → DisruptiveOutcome → ℕ
+stopStatus g ps DisruptiveOutcome.Nothing = 0
+stopStatus g ps DisruptiveOutcome.Deny = g .reading .status (lastStatus ps)
+stopStatus g ps DisruptiveOutcome.Block = g .settings .«default_status»
+stopStatus g ps DisruptiveOutcome.Pass = 0
+stopStatus g ps DisruptiveOutcome.Allow = 0
+stopStatus g ps (DisruptiveOutcome.Redirect at) = 302
+stopStatus g ps DisruptiveOutcome.Drop = 444
 
 abbrev pub drops : DisruptiveOutcome → Bool
 drops DisruptiveOutcome.Nothing = false
@@ -130,18 +130,18 @@ ifDifferent (OptionU64.Some n) (OptionU64.Some id) = cond (eqb n id) OptionU64.N
 
 -- 01: "The id list holds the closing rule's id, if any, then the starter's metadata id, if any and different. The log is
 -- the starter's msg; the starter's metadata and the phase are held too."
-unfoldable pub unitIntervention : Call → List ℕ → Intervention
-unitIntervention q unit =
-    let ps = actionsAt q (starterOf unit) in
+unfoldable pub unitIntervention : Given → List ℕ → Intervention
+unitIntervention g unit =
+    let ps = actionsAt g (starterOf unit) in
     let d = lastDisruptive ps in
-    let metadata = metadataOf (q .phase) ps in
+    let metadata = metadataOf (g .settings .phase) ps in
     record {
-      status = stopStatus q ps d;
-      url = addressOf (q .phase) d;
+      status = stopStatus g ps d;
+      url = addressOf (g .settings .phase) d;
       log = metadata .msg;
-      closing = idAt q (closerOf unit);
-      starter = ifDifferent (idAt q (closerOf unit)) (metadata .id);
-      phase = q .phase;
+      closing = idAt g (closerOf unit);
+      starter = ifDifferent (idAt g (closerOf unit)) (metadata .id);
+      phase = g .settings .phase;
       drop = drops d;
       metadata = metadata;
     }

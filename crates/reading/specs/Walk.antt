@@ -1,4 +1,4 @@
--- Demand 2's walk: the visits of a phase, from what the call was given alone.
+-- Demand 2's walk: the visits of a phase, from what the call was given and the transaction at entry alone.
 use Prim.Native.Nat.{ℕ, zero, suc, _+_}
 use mathlib.Core.Bool.{Bool, true, false, not, cond, _&&_, _||_}
 use mathlib.Core.List.{List, [], _∷_, _++_}
@@ -20,7 +20,7 @@ use Rattle.reading.specs.Numbers.{verdictNumber}
 use Rattle.reading.specs.Controls.{Controls, isRemoved, isOn, isOff}
 use Rattle.reading.specs.Markers.{markerPosition}
 use Rattle.reading.specs.Reading.{jumps}
-use Rattle.reading.specs.Call.{Call, ruleCount, isLink, idAt, outcomeAt, modeUnder}
+use Rattle.reading.specs.Call.{Given, Transaction, ruleCount, isLink, idAt, outcomeAt, modeUnder}
 use Rattle.reading.specs.Units.{unitIds, unitData, unitControls, unitFlow, unitDisruptive, unitIntervention, isAllow, isStopping}
 
 -- 01: "it keeps the next index, the open chain's members and the controls so far". No members: no chain is open.
@@ -54,8 +54,8 @@ abbrev pub verdictBy : ℕ → Verdict
 verdictBy outcome = cond (eqb outcome 0) Verdict.Missed (cond (eqb outcome 3) Verdict.Error Verdict.Matched)
 
 -- a removed rule's outcome is not looked at
-unfoldable pub verdictAt : Call → Controls → ℕ → Verdict
-verdictAt q c i = cond (isRemoved (c .ranges) (idAt q i)) Verdict.Removed (verdictBy (outcomeAt q i))
+unfoldable pub verdictAt : Given → Controls → ℕ → Verdict
+verdictAt g c i = cond (isRemoved (c .ranges) (idAt g i)) Verdict.Removed (verdictBy (outcomeAt g i))
 
 -- how many rules there are from here through the first that is not a link
 abbrev pub chainRest : List Rule → ℕ
@@ -63,45 +63,45 @@ chainRest [] = 0
 chainRest (r ∷ rs) = cond (eqb (r .link) 1) (suc (chainRest rs)) 1
 
 -- 01: "passes everything through the chain's closing rule": the index after it, or after the last rule
-unfoldable pub afterChain : Call → ℕ → ℕ
-afterChain q i = i + chainRest (drop i (q .rules))
+unfoldable pub afterChain : Given → ℕ → ℕ
+afterChain g i = i + chainRest (drop i (g .rules))
 
 -- 01: "skipAfter goes to the marker only if its position is greater than the index after the closing rule [the reading
 -- says which]; otherwise the phase's rest is passed."
-abbrev pub jumpFrom : Call → ℕ → OptionU64 → ℕ
-jumpFrom q after OptionU64.None = ruleCount q
-jumpFrom q after (OptionU64.Some position) = cond (jumps (q .reading) position after) position (ruleCount q)
+abbrev pub jumpFrom : Given → ℕ → OptionU64 → ℕ
+jumpFrom g after OptionU64.None = ruleCount g
+jumpFrom g after (OptionU64.Some position) = cond (jumps (g .reading) position after) position (ruleCount g)
 
 -- what stands where there is no action: no position of a rule's action is such
 abbrev pub noAction : Action
 noAction = record { kind = 0; number = 0; text = record { start = 0; len = 0 }; value = record { start = 0; len = 0 } }
 
 -- the marker name of the skipAfter action at a position
-abbrev pub markerName : Call → ℕ → List ℕ
-markerName q position = partOf (q .text) (getD (q .actions) position noAction .text)
+abbrev pub markerName : Given → ℕ → List ℕ
+markerName g position = partOf (g .text) (getD (g .actions) position noAction .text)
 
 -- the next index after a closing rule, given the index after it. 01: "Skip n passes n indexes; links count singly.", and
 -- "A chain action that is the last flow action has no effect at closing."
-abbrev pub afterFlow : Call → ℕ → FlowOutcome → ℕ
-afterFlow q after FlowOutcome.Continue = after
-afterFlow q after FlowOutcome.Chain = after
-afterFlow q after (FlowOutcome.Skip n) = after + n
-afterFlow q after (FlowOutcome.SkipAfter position) = jumpFrom q after (markerPosition (q .text) (q .markers) (markerName q position))
+abbrev pub afterFlow : Given → ℕ → FlowOutcome → ℕ
+afterFlow g after FlowOutcome.Continue = after
+afterFlow g after FlowOutcome.Chain = after
+afterFlow g after (FlowOutcome.Skip n) = after + n
+afterFlow g after (FlowOutcome.SkipAfter position) = jumpFrom g after (markerPosition (g .text) (g .markers) (markerName g position))
 
 -- 01: "Allow takes effect in any mode; the four stopping actions only in On, tested after the unit's own controls."
-abbrev pub endingBy : Call → List ℕ → Controls → DisruptiveOutcome → Ending
-endingBy q unit c d =
+abbrev pub endingBy : Given → List ℕ → Controls → DisruptiveOutcome → Ending
+endingBy g unit c d =
     cond (isAllow d) allows
-    (cond (isStopping d && isOn (modeUnder q c)) (stops (unitIntervention q unit)) goesOn)
+    (cond (isStopping d && isOn (modeUnder g c)) (stops (unitIntervention g unit)) goesOn)
 
 -- a unit closes, with the controls c after it
-abbrev pub closing : Call → State → List ℕ → Controls → Visit
-closing q st unit c = record {
+abbrev pub closing : Given → State → List ℕ → Controls → Visit
+closing g st unit c = record {
   index = st .next;
   verdict = Verdict.Matched;
   closed = unit ∷ [];
-  after = record { next = afterFlow q (suc (st .next)) (unitFlow q unit); members = []; controls = c };
-  ending = endingBy q unit c (unitDisruptive q unit);
+  after = record { next = afterFlow g (suc (st .next)) (unitFlow g unit); members = []; controls = c };
+  ending = endingBy g unit c (unitDisruptive g unit);
 }
 
 -- a visit that closes no unit
@@ -115,59 +115,59 @@ passing i verdict next members c ending = record {
 }
 
 -- the visit of a rule, by what it is found to be and by whether it is a link
-abbrev pub visitBy : Call → State → Verdict → Bool → Visit
+abbrev pub visitBy : Given → State → Verdict → Bool → Visit
 -- "A missed rule, where it is a link or a chain is open, breaks the chain and likewise passes its rest." A rule that is
 -- no link has no rest but itself.
-visitBy q st Verdict.Missed link = passing (st .next) Verdict.Missed (afterChain q (st .next)) [] (st .controls) goesOn
+visitBy g st Verdict.Missed link = passing (st .next) Verdict.Missed (afterChain g (st .next)) [] (st .controls) goesOn
 -- "A matched link holds its controls and waits."
-visitBy q st Verdict.Matched true =
+visitBy g st Verdict.Matched true =
     passing (st .next) Verdict.Matched (suc (st .next)) (st .members ++ (st .next ∷ [])) (st .controls) goesOn
 -- "A matched rule that is not a link closes the unit: its id is listed, controls apply, then flow, then the disruptive action."
-visitBy q st Verdict.Matched false =
-    closing q st (st .members ++ (st .next ∷ [])) (unitControls q (st .members ++ (st .next ∷ [])) (st .controls))
+visitBy g st Verdict.Matched false =
+    closing g st (st .members ++ (st .next ∷ [])) (unitControls g (st .members ++ (st .next ∷ [])) (st .controls))
 -- "A removed link breaks the open chain and passes everything through the chain's closing rule."
-visitBy q st Verdict.Removed true = passing (st .next) Verdict.Removed (afterChain q (st .next)) [] (st .controls) goesOn
+visitBy g st Verdict.Removed true = passing (st .next) Verdict.Removed (afterChain g (st .next)) [] (st .controls) goesOn
 -- "A removed rule that is not a link is passed alone: an open chain stays open [in the Rust's reading], and the next rule
 -- visited belongs to it."
-visitBy q st Verdict.Removed false =
-    passing (st .next) Verdict.Removed (suc (st .next)) (keep (not (q .reading .breaks)) (st .members)) (st .controls) goesOn
+visitBy g st Verdict.Removed false =
+    passing (st .next) Verdict.Removed (suc (st .next)) (keep (not (g .reading .breaks)) (st .members)) (st .controls) goesOn
 -- "Answer 10 ..: a visited rule that was not removed had outcome 3"
-visitBy q st Verdict.Error link = passing (st .next) Verdict.Error (suc (st .next)) (st .members) (st .controls) errs
+visitBy g st Verdict.Error link = passing (st .next) Verdict.Error (suc (st .next)) (st .members) (st .controls) errs
 
-unfoldable pub visitAt : Call → State → Visit
-visitAt q st = visitBy q st (verdictAt q (st .controls) (st .next)) (isLink q (st .next))
+unfoldable pub visitAt : Given → State → Visit
+visitAt g st = visitBy g st (verdictAt g (st .controls) (st .next)) (isLink g (st .next))
 
 -- whether there is a visit. 01: "Off is tested before each visit and ends the phase."
-abbrev pub isVisited : Call → State → Bool
-isVisited q st = ltb (st .next) (ruleCount q) && not (isOff (modeUnder q (st .controls)))
+abbrev pub isVisited : Given → State → Bool
+isVisited g st = ltb (st .next) (ruleCount g) && not (isOff (modeUnder g (st .controls)))
 
 -- the visits from a state on, at most so many
-unfoldable pub walk : ℕ → Call → State → List Visit
-walk zero q st = []
-walk (suc k) q st =
-    let v = visitAt q st in
-    let rest = walk k q (v .after) in
-    keep (isVisited q st) (v ∷ keep (not (isLast (v .ending))) rest)
+unfoldable pub walk : ℕ → Given → State → List Visit
+walk zero g st = []
+walk (suc k) g st =
+    let v = visitAt g st in
+    let rest = walk k g (v .after) in
+    keep (isVisited g st) (v ∷ keep (not (isLast (v .ending))) rest)
 
 abbrev pub isStopped : OptionIntervention → Bool
 isStopped OptionIntervention.None = false
 isStopped (OptionIntervention.Some i) = true
 
 -- 01: "Nothing is done if already allowed or stopped, if the mode is Off, or if there are no rules."
-abbrev pub nothingToDo : Call → Bool
-nothingToDo q =
-    q .transaction .allowed
-    || isStopped (q .transaction .intervention)
-    || isOff (modeUnder q (q .transaction .controls))
-    || eqb (ruleCount q) 0
+abbrev pub nothingToDo : Given → Transaction → Bool
+nothingToDo g t =
+    t .allowed
+    || isStopped (t .intervention)
+    || isOff (modeUnder g (t .controls))
+    || eqb (ruleCount g) 0
 
 -- 01: "Otherwise, from index 0"
-abbrev pub start : Call → State
-start q = record { next = 0; members = []; controls = q .transaction .controls }
+abbrev pub start : Transaction → State
+start t = record { next = 0; members = []; controls = t .controls }
 
 -- each visit goes on to a greater index, so there are at most as many as rules (`walk-complete` in crates/theorems)
-unfoldable pub walkOf : Call → List Visit
-walkOf q = keep (not (nothingToDo q)) (walk (ruleCount q) q (start q))
+unfoldable pub walkOf : Given → Transaction → List Visit
+walkOf g t = keep (not (nothingToDo g t)) (walk (ruleCount g) g (start t))
 
 -- WHAT THE VISITS COME TO
 
@@ -183,11 +183,11 @@ abbrev pub closedIn : List Visit → List (List ℕ)
 closedIn [] = []
 closedIn (v ∷ vs) = v .closed ++ closedIn vs
 
-abbrev pub idsOf : Call → List Visit → List ℕ
-idsOf q vs = gather (unitIds q) (closedIn vs)
+abbrev pub idsOf : Given → List Visit → List ℕ
+idsOf g vs = gather (unitIds g) (closedIn vs)
 
-abbrev pub dataOf : Call → List Visit → List DataEntry
-dataOf q vs = gather (unitData q) (closedIn vs)
+abbrev pub dataOf : Given → List Visit → List DataEntry
+dataOf g vs = gather (unitData g) (closedIn vs)
 
 -- the controls after visits that began with c
 abbrev pub controlsAfter : Controls → List Visit → Controls

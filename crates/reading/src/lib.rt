@@ -99,6 +99,14 @@ pub enum OptionPlace {
     Some(Place),
 }
 
+// The numbers that a call is given: the phase, the rule set's mode, and the caller's default status, which a block has.
+#[repr(C)]
+pub struct CallSettings {
+    pub phase: u64,
+    pub mode: u64,
+    pub default_status: u64,
+}
+
 // A rule's record. `present` is 1 where the rule has an id and 0 where it has none, `link` is
 // `is_chain`, and its actions are the `count` from `first` on.
 pub struct Rule {

@@ -13,13 +13,13 @@ use Rattle.reading.specs.declared.JournalEntry.{JournalEntry}
 use Rattle.reading.specs.declared.Intervention.{Intervention}
 use Rattle.reading.specs.declared.OptionIntervention.{OptionIntervention}
 use Rattle.reading.specs.Lists.{keep, over}
-use Rattle.reading.specs.Call.{Call, ruleCount, isLink, modeUnder}
+use Rattle.reading.specs.Call.{Given, Call, Transaction, Lists, ruleCount, isLink, modeUnder}
 use Rattle.reading.specs.Controls.{Controls, isOn}
 use Rattle.reading.specs.Units.{unitDisruptive, unitIntervention, isStopping}
 use Rattle.reading.specs.Walk.{Visit, walk, start, walkOf, isStopped, nothingToDo, journalOf, idsOf, dataOf, allowedBy, interventionBy, answerBy, errorIndexBy, isError}
 use Rattle.reading.specs.Replay.{heldAfter, unitsOf, lastClosedFrom, lastClosed, stopOf, replayedControls, replayedIntervention}
 use Rattle.reading.specs.Refusals.{refusalOf, refused1, refused2, refused3, refused4, refused5, refused6, refused7, refused8, refused9}
-use Rattle.reading.specs.Outcome.{Outcome, visitsOf, outcomeOf, atFreeEnd, ifNone, transactionAfter}
+use Rattle.reading.specs.Outcome.{Outcome, visitsOf, outcomeOf, atFreeEnd, ifNone, transactionAfter, listsAfter}
 use Rattle.reading.specs.Demand3.{Demand3, StoppedBy, foundJournal}
 use Rattle.lists.proofs.Tests.{or-false-is}
 use Rattle.theorems.specs.Replayed.{Replayed, walk-replayed}
@@ -39,7 +39,7 @@ take-front (x ∷ xs) ys = ap (λ l. x ∷ l) (take-front xs ys)
 found-is : (q : Call) → foundJournal (outcomeOf q) ≡ journalOf (visitsOf q)
 unfolding outcomeOf
 found-is q =
-    rw (← length-journal (visitsOf q)) (take-front (journalOf (visitsOf q)) (drop (length (journalOf (visitsOf q))) (q .journal)))
+    rw (← length-journal (visitsOf q)) (take-front (journalOf (visitsOf q)) (drop (length (journalOf (visitsOf q))) (q .lists .journal)))
 
 pub none-held : (i : OptionIntervention) → isStopped i ≡ false → i ≡ OptionIntervention.None
 none-held OptionIntervention.None e = refl
@@ -75,7 +75,7 @@ pub refused-answer : (q : Call) → (refusalOf q ≡ 0 → ⊥) → outcomeOf q 
 unfolding outcomeOf
 refused-answer q h = rw (ne-eqb (refusalOf q) 0 h)
 
-pub accepted-answer : (q : Call) → refusalOf q ≡ 0 → outcomeOf q .answer ≡ answerBy (walkOf q)
+pub accepted-answer : (q : Call) → refusalOf q ≡ 0 → outcomeOf q .answer ≡ answerBy (walkOf (q .given) (q .transaction))
 unfolding outcomeOf
 accepted-answer q e = ap (λ (b : Bool). cond b (answerBy (visitsOf q)) (refusalOf q)) (eq-eqb (refusalOf q) 0 e) ∙ ap answerBy (accepted-visits q e)
 
@@ -106,15 +106,15 @@ pub other-answers-no-index : (q : Call) → (outcomeOf q .answer ≡ 10 → ⊥)
 unfolding outcomeOf visitsOf
 other-answers-no-index q h = by (eqb (refusalOf q) 0) refl
   where
-    by : (b : Bool) → eqb (refusalOf q) 0 ≡ b → errorIndexBy (keep b (walkOf q)) ≡ 0
+    by : (b : Bool) → eqb (refusalOf q) 0 ≡ b → errorIndexBy (keep b (walkOf (q .given) (q .transaction))) ≡ 0
     by false e = refl
     by true e =
-        not-ten (walkOf q) (zero-or-ten (walkOf q))
-        (λ t. h (ap (λ (b : Bool). cond b (answerBy (keep b (walkOf q))) (refusalOf q)) e ∙ t))
+        not-ten (walkOf (q .given) (q .transaction)) (zero-or-ten (walkOf (q .given) (q .transaction)))
+        (λ t. h (ap (λ (b : Bool). cond b (answerBy (keep b (walkOf (q .given) (q .transaction)))) (refusalOf q)) e ∙ t))
 
 -- demand 1: answer 10's condition
-pub ten-has-cause : (q : Call) → outcomeOf q .answer ≡ 10 → ErrorFound q (q .transaction .controls) (walkOf q)
-ten-has-cause q h = ten-only-after-error q (sym (accepted-answer q (answered-accepted q (inr h))) ∙ h)
+pub ten-has-cause : (q : Call) → outcomeOf q .answer ≡ 10 → ErrorFound (q .given) (q .transaction .controls) (walkOf (q .given) (q .transaction))
+ten-has-cause q h = ten-only-after-error (q .given) (q .transaction) (sym (accepted-answer q (answered-accepted q (inr h))) ∙ h)
 
 -- DEMAND 3, WHOLE
 
@@ -122,23 +122,23 @@ pub demand3 : (q : Call) → Demand3 q (outcomeOf q)
 unfolding outcomeOf unitsOf lastClosed
 demand3 q answered unallowed unstopped =
     let e : refusalOf q ≡ 0 = answered-accepted q answered in
-    let vs : visitsOf q ≡ walkOf q = accepted-visits q e in
-    let r : Replayed q [] (q .transaction .controls) (walkOf q) = walk-replayed q in
-    let found : foundJournal (outcomeOf q) ≡ journalOf (walkOf q) = found-is q ∙ ap journalOf vs in
+    let vs : visitsOf q ≡ walkOf (q .given) (q .transaction) = accepted-visits q e in
+    let r : Replayed (q .given) [] (q .transaction .controls) (walkOf (q .given) (q .transaction)) = walk-replayed (q .given) (q .transaction) in
+    let found : foundJournal (outcomeOf q) ≡ journalOf (walkOf (q .given) (q .transaction)) = found-is q ∙ ap journalOf vs in
     record {
       visits = ap length vs;
       journal = found;
-      rising = rw found (indexes-rise q);
+      rising = rw found (indexes-rise (q .given) (q .transaction));
       ids = rw (found, vs, ← r .units);
       ids-used = rw (found, vs, ← r .units);
       data-entries = rw (found, vs, ← r .units);
       data-used = rw (found, vs, ← r .units);
       controls = rw (found, vs, ← r .units) (r .controls);
-      allow = rw (found, vs, ← r .units) (ap (λ (b : Bool). b || allowedBy (walkOf q)) unallowed ∙ r .allow);
+      allow = rw (found, vs, ← r .units) (ap (λ (b : Bool). b || allowedBy (walkOf (q .given) (q .transaction))) unallowed ∙ r .allow);
       intervention =
           rw (found, vs, ← r .units, ← r .controls) (
-          ap (λ (i : OptionIntervention). ifNone (interventionBy (walkOf q)) i) (none-held (q .transaction .intervention) unstopped)
-          ∙ or-none (interventionBy (walkOf q)) ∙ r .intervention);
+          ap (λ (i : OptionIntervention). ifNone (interventionBy (walkOf (q .given) (q .transaction))) i) (none-held (q .transaction .intervention) unstopped)
+          ∙ or-none (interventionBy (walkOf (q .given) (q .transaction))) ∙ r .intervention);
     }
 
 -- "An intervention is then found exactly when ..": the equation of `Accounted`, as the two directions
@@ -147,7 +147,7 @@ demand3 q answered unallowed unstopped =
 OneOrNone : List (List ℕ) → Type 0
 OneOrNone l = (l ≡ []) ⊎ ((u : List ℕ) × (l ≡ u ∷ []))
 
-one-or-none : (q : Call) (held : List ℕ) (journal : List JournalEntry) → OneOrNone (lastClosedFrom q held journal)
+one-or-none : (q : Given) (held : List ℕ) (journal : List JournalEntry) → OneOrNone (lastClosedFrom q held journal)
 unfolding OneOrNone
 one-or-none q held [] = inl refl
 one-or-none q held (e ∷ []) = by (eqb (e .verdict) 1 && not (isLink q (e .index)))
@@ -163,32 +163,32 @@ same-intervention i j e = cc
 never : (i : Intervention) → OptionIntervention.None ≡ OptionIntervention.Some i → ⊥
 never i e = let z : _≡_ {A = ℕ} 0 1 = cc in omega arith
 
-pub stop-has-cause : (q : Call) (journal : List JournalEntry) (i : Intervention)
-    → replayedIntervention q journal ≡ OptionIntervention.Some i → StoppedBy q journal i
+pub stop-has-cause : (q : Given) (t : Transaction) (journal : List JournalEntry) (i : Intervention)
+    → replayedIntervention q t journal ≡ OptionIntervention.Some i → StoppedBy q t journal i
 unfolding lastClosed OneOrNone
-stop-has-cause q journal i h = by (one-or-none q [] journal)
+stop-has-cause q t journal i h = by (one-or-none q [] journal)
   where
     c : Controls
-    c = replayedControls q journal
+    c = replayedControls q t journal
 
     unit-by : (u : List ℕ) → lastClosedFrom q [] journal ≡ u ∷ [] → (s on : Bool) → isStopping (unitDisruptive q u) ≡ s → isOn (modeUnder q c) ≡ on
-        → cond (s && on) (OptionIntervention.Some (unitIntervention q u)) OptionIntervention.None ≡ OptionIntervention.Some i → StoppedBy q journal i
+        → cond (s && on) (OptionIntervention.Some (unitIntervention q u)) OptionIntervention.None ≡ OptionIntervention.Some i → StoppedBy q t journal i
     unit-by u e true true p r g =
         record { unit = u; closed-last = e; stopping = p; mode-on = r; built = sym (same-intervention (unitIntervention q u) i g) }
     unit-by u e true false p r g = absurd (never i g)
     unit-by u e false on p r g = absurd (never i g)
 
-    by : OneOrNone (lastClosedFrom q [] journal) → StoppedBy q journal i
+    by : OneOrNone (lastClosedFrom q [] journal) → StoppedBy q t journal i
     by (inl e) = absurd (never i (sym (ap (λ (l : List (List ℕ)). stopOf q l c) e) ∙ h))
     by (inr p) =
         unit-by (p .0) (p .1) (isStopping (unitDisruptive q (p .0))) (isOn (modeUnder q c)) refl refl
         (sym (ap (λ (l : List (List ℕ)). stopOf q l c) (p .1)) ∙ h)
 
-pub cause-stops : (q : Call) (journal : List JournalEntry) (i : Intervention)
-    → StoppedBy q journal i → replayedIntervention q journal ≡ OptionIntervention.Some i
-cause-stops q journal i s =
-    ap (λ (l : List (List ℕ)). stopOf q l (replayedControls q journal)) (s .closed-last)
-    ∙ ap (λ (b : Bool). cond (b && isOn (modeUnder q (replayedControls q journal))) (OptionIntervention.Some (unitIntervention q (s .unit))) OptionIntervention.None) (s .stopping)
+pub cause-stops : (q : Given) (t : Transaction) (journal : List JournalEntry) (i : Intervention)
+    → StoppedBy q t journal i → replayedIntervention q t journal ≡ OptionIntervention.Some i
+cause-stops q t journal i s =
+    ap (λ (l : List (List ℕ)). stopOf q l (replayedControls q t journal)) (s .closed-last)
+    ∙ ap (λ (b : Bool). cond (b && isOn (modeUnder q (replayedControls q t journal))) (OptionIntervention.Some (unitIntervention q (s .unit))) OptionIntervention.None) (s .stopping)
     ∙ ap (λ (b : Bool). cond b (OptionIntervention.Some (unitIntervention q (s .unit))) OptionIntervention.None) (s .mode-on)
     ∙ ap OptionIntervention.Some (sym (s .built))
 
@@ -197,10 +197,8 @@ cause-stops q journal i s =
 -- everything that was lent is found as it was, and the journal counts no entry
 pub record AsLent (q : Call) (o : Outcome) : Type 0 where
   pub visits : o .visits ≡ 0
-  pub journal : o .journal ≡ q .journal
-  pub ids : o .ids ≡ q .ids
-  pub data-entries : o .data-entries ≡ q .data-entries
   pub transaction : o .transaction ≡ q .transaction
+  pub lists : o .lists ≡ q .lists
 
 drop-none : {A : Type 0} (l : List A) → drop 0 l ≡ l
 drop-none [] = refl
@@ -209,17 +207,24 @@ drop-none (x ∷ l) = refl
 no-more-entries : {A : Type 0} (used : ℕ) (l : List A) → atFreeEnd used l [] ≡ l
 no-more-entries used l = rw (drop-none (drop used l)) (take-append-drop used l)
 
-transaction-kept : (q : Call) → transactionAfter q [] ≡ q .transaction
-transaction-kept q = λ i. record {
-  controls = q .transaction .controls;
-  allowed = or-false-is (q .transaction .allowed) i;
-  intervention = q .transaction .intervention;
-  ids = plus-none (q .transaction .ids) i;
-  data-entries = plus-none (q .transaction .data-entries) i;
+transaction-kept : (g : Given) (t : Transaction) → transactionAfter g t [] ≡ t
+transaction-kept g t = λ i. record {
+  controls = t .controls;
+  allowed = or-false-is (t .allowed) i;
+  intervention = t .intervention;
+  ids = plus-none (t .ids) i;
+  data-entries = plus-none (t .data-entries) i;
 }
   where
     plus-none : (n : ℕ) → n + 0 ≡ n
     plus-none n = omega arith
+
+lists-kept : (g : Given) (t : Transaction) (lent : Lists) → listsAfter g t lent [] ≡ lent
+lists-kept g t lent = λ i. record {
+  ids = no-more-entries (t .ids) (lent .ids) i;
+  data-entries = no-more-entries (t .data-entries) (lent .data-entries) i;
+  journal = drop-none (lent .journal) i;
+}
 
 -- a call without visits
 no-visits : (q : Call) → visitsOf q ≡ [] → AsLent q (outcomeOf q)
@@ -227,25 +232,21 @@ unfolding outcomeOf
 no-visits q e =
     record {
       visits = ap length e;
-      journal = ap (λ (vs : List Visit). over (q .journal) (journalOf vs)) e ∙ drop-none (q .journal);
-      ids = ap (λ (vs : List Visit). atFreeEnd (q .transaction .ids) (q .ids) (idsOf q vs)) e ∙ no-more-entries (q .transaction .ids) (q .ids);
-      data-entries =
-          ap (λ (vs : List Visit). atFreeEnd (q .transaction .data-entries) (q .data-entries) (dataOf q vs)) e
-          ∙ no-more-entries (q .transaction .data-entries) (q .data-entries);
-      transaction = ap (λ (vs : List Visit). transactionAfter q vs) e ∙ transaction-kept q;
+      transaction = ap (transactionAfter (q .given) (q .transaction)) e ∙ transaction-kept (q .given) (q .transaction);
+      lists = ap (listsAfter (q .given) (q .transaction) (q .lists)) e ∙ lists-kept (q .given) (q .transaction) (q .lists);
     }
 
 -- demand 1: "Any other call gets the first number of 01's list that applies, and transaction and lists are found exactly as lent."
 pub refused-as-lent : (q : Call) → (refusalOf q ≡ 0 → ⊥) → AsLent q (outcomeOf q)
 unfolding visitsOf
-refused-as-lent q h = no-visits q (ap (λ (b : Bool). keep b (walkOf q)) (ne-eqb (refusalOf q) 0 h))
+refused-as-lent q h = no-visits q (ap (λ (b : Bool). keep b (walkOf (q .given) (q .transaction))) (ne-eqb (refusalOf q) 0 h))
 
 -- 01: "Nothing is done if already allowed or stopped, if the mode is Off, or if there are no rules."
-pub idle-as-lent : (q : Call) → refusalOf q ≡ 0 → nothingToDo q ≡ true → AsLent q (outcomeOf q)
+pub idle-as-lent : (q : Call) → refusalOf q ≡ 0 → nothingToDo (q .given) (q .transaction) ≡ true → AsLent q (outcomeOf q)
 unfolding walkOf
-idle-as-lent q e h = no-visits q (accepted-visits q e ∙ ap (λ (b : Bool). keep (not b) (walk (ruleCount q) q (start q))) h)
+idle-as-lent q e h = no-visits q (accepted-visits q e ∙ ap (λ (b : Bool). keep (not b) (walk (ruleCount (q .given)) (q .given) (start (q .transaction)))) h)
 
-pub idle-answer : (q : Call) → refusalOf q ≡ 0 → nothingToDo q ≡ true → outcomeOf q .answer ≡ 0
+pub idle-answer : (q : Call) → refusalOf q ≡ 0 → nothingToDo (q .given) (q .transaction) ≡ true → outcomeOf q .answer ≡ 0
 unfolding walkOf
 idle-answer q e h =
-    accepted-answer q e ∙ ap (λ (b : Bool). answerBy (keep (not b) (walk (ruleCount q) q (start q)))) h
+    accepted-answer q e ∙ ap (λ (b : Bool). answerBy (keep (not b) (walk (ruleCount (q .given)) (q .given) (start (q .transaction))))) h

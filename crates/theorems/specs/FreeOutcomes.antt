@@ -19,39 +19,33 @@ use Rattle.reading.specs.Numbers.{verdictNumber}
 use Rattle.reading.specs.Controls.{Controls, isRemoved, isOn}
 use Rattle.reading.specs.Actions.{Placed, controlsIn, lastDisruptive}
 use Rattle.reading.specs.Markers.{markerPosition}
-use Rattle.reading.specs.Call.{Call, ruleCount, ruleAt, isLink, idAt, outcomeAt, actionsAt, modeUnder}
+use Rattle.reading.specs.Call.{Given, Transaction, ruleCount, ruleAt, isLink, idAt, outcomeAt, actionsAt, modeUnder}
 use Rattle.reading.specs.Units.{starterOf, memberData, dataEntry, unitData, actionControls, ruleControls, unitControls, unitFlow, unitDisruptive, unitIntervention, stopStatus, isAllow, isStopping}
 use Rattle.reading.specs.Walk.{State, Visit, allows, goesOn, stops, isLast, verdictBy, verdictAt, afterChain, jumpFrom, markerName, afterFlow, endingBy, visitBy, visitAt, isVisited, walk, walkOf, start, nothingToDo, entryOf, journalOf, closedIn, dataOf}
 
--- the same call with other outcomes
-abbrev pub withOutcomes : List ℕ → Call → Call
+-- the same with other outcomes
+abbrev pub withOutcomes : List ℕ → Given → Given
 withOutcomes outcomes q = record {
   reading = q .reading;
-  phase = q .phase;
-  mode = q .mode;
-  status = q .status;
+  settings = q .settings;
   rules = q .rules;
   actions = q .actions;
   markers = q .markers;
   text = q .text;
   outcomes = outcomes;
-  transaction = q .transaction;
-  ids = q .ids;
-  data-entries = q .data-entries;
-  journal = q .journal;
 }
 
 -- two calls have the same outcome for every rule of a journal that is not removed
-abbrev pub SameOutcomes : Call → Call → List JournalEntry → Type 0
+abbrev pub SameOutcomes : Given → Given → List JournalEntry → Type 0
 SameOutcomes q p [] = Unit {0}
 SameOutcomes q p (e ∷ es) = ((e .verdict ≡ 2) ⊎ (outcomeAt q (e .index) ≡ outcomeAt p (e .index))) × SameOutcomes q p es
 
 -- and for some rules
-abbrev SameOf : Call → Call → List ℕ → Type 0
+abbrev SameOf : Given → Given → List ℕ → Type 0
 SameOf q p [] = Unit {0}
 SameOf q p (m ∷ ms) = (outcomeAt q m ≡ outcomeAt p m) × SameOf q p ms
 
-module _ (outcomes : List ℕ) (q : Call) where
+module _ (outcomes : List ℕ) (q : Given) where
   -- WHAT LOOKS AT NO OUTCOME
 
   actions-same : (ps : List Placed) (c : Controls) → actionControls (withOutcomes outcomes q) ps c ≡ actionControls q ps c
@@ -187,11 +181,11 @@ module _ (outcomes : List ℕ) (q : Call) where
   walk-same (suc k) st h =
       turn-same st (isVisited q st) (λ s. walk k (withOutcomes outcomes q) s) (walk k q (visitAt q st .after)) (walk-same k (visitAt q st .after)) h
 
-  pub outcomes-free : SameOutcomes q (withOutcomes outcomes q) (journalOf (walkOf q)) → walkOf (withOutcomes outcomes q) ≡ walkOf q
+  pub outcomes-free : (t : Transaction) → SameOutcomes q (withOutcomes outcomes q) (journalOf (walkOf q t)) → walkOf (withOutcomes outcomes q) t ≡ walkOf q t
   unfolding walkOf
-  outcomes-free h =
-      kept-same (not (nothingToDo q)) (walk (ruleCount q) (withOutcomes outcomes q) (start q)) (walk (ruleCount q) q (start q))
-      (walk-same (ruleCount q) (start q)) h
+  outcomes-free t h =
+      kept-same (not (nothingToDo q t)) (walk (ruleCount q) (withOutcomes outcomes q) (start t)) (walk (ruleCount q) q (start t))
+      (walk-same (ruleCount q) (start t)) h
 
   -- THE DATA: a member of a closed unit was visited and not removed, so it has the same outcome
 
@@ -269,8 +263,8 @@ module _ (outcomes : List ℕ) (q : Call) where
       ap (λ (l : List DataEntry). l ++ gather (unitData (withOutcomes outcomes q)) us) (members-data (starterOf u) u (h .0))
       ∙ ap (λ (l : List DataEntry). unitData q u ++ l) (units-data us (h .1))
 
-  pub data-free : SameOutcomes q (withOutcomes outcomes q) (journalOf (walkOf q)) → dataOf (withOutcomes outcomes q) (walkOf q) ≡ dataOf q (walkOf q)
+  pub data-free : (t : Transaction) → SameOutcomes q (withOutcomes outcomes q) (journalOf (walkOf q t)) → dataOf (withOutcomes outcomes q) (walkOf q t) ≡ dataOf q (walkOf q t)
   unfolding walkOf
-  data-free h =
-      units-data (closedIn (walkOf q))
-      (kept-members (not (nothingToDo q)) (walk (ruleCount q) q (start q)) (walk-members (ruleCount q) (start q) tt) h)
+  data-free t h =
+      units-data (closedIn (walkOf q t))
+      (kept-members (not (nothingToDo q t)) (walk (ruleCount q) q (start t)) (walk-members (ruleCount q) (start t) tt) h)

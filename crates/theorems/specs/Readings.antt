@@ -22,7 +22,7 @@ use Rattle.reading.specs.Directive.{ruleRemoveById, unsupported}
 use Rattle.reading.specs.Controls.{Controls, isOn, isOff}
 use Rattle.reading.specs.Actions.{Placed, kindOf, lastFrom, lastOf, isFlow, flowBy, lastFlow, lastStatus}
 use Rattle.reading.specs.Reading.{Reading, rust, manual, jumps, rustStatus, manualStatus}
-use Rattle.reading.specs.Call.{Call, ruleCount, ruleAt, isLink, noRule, modeUnder}
+use Rattle.reading.specs.Call.{Given, Call, Transaction, ruleCount, ruleAt, isLink, noRule, modeUnder}
 use Rattle.reading.specs.Walk.{State, goesOn, allows, stops, isLast, afterChain, afterFlow, endingBy, visitBy, isStopped, nothingToDo}
 use Rattle.reading.specs.Units.{isAllow, isStopping, stopStatus, unitIntervention}
 use Rattle.reading.specs.Refusals.{refusalOf, refused1, refused2, refused3, refused4, refused5, refused6, refused7, refused8, refused9, ruleTotal}
@@ -55,11 +55,11 @@ pub status-agrees : rustStatus OptionU64.None ≡ manualStatus OptionU64.None
 status-agrees = refl
 
 -- skip passes as many in both where no link lies ahead
-link-is : (q : Call) (i : ℕ) → i < ruleCount q → isLink q i ≡ false → afterChain q i ≡ i + 1
+link-is : (q : Given) (i : ℕ) → i < ruleCount q → isLink q i ≡ false → afterChain q i ≡ i + 1
 unfolding isLink ruleAt afterChain
 link-is q i h e = rw (drop-cons (q .rules) i noRule h, e)
 
-pub skips-agree : (q : Call) (after n : ℕ) → after + n ≤ ruleCount q → ((j : ℕ) → after ≤ j → j < after + n → isLink q j ≡ false)
+pub skips-agree : (q : Given) (after n : ℕ) → after + n ≤ ruleCount q → ((j : ℕ) → after ≤ j → j < after + n → isLink q j ≡ false)
     → manualSkip q after n ≡ rustSkip after n
 unfolding manualSkip
 skips-agree q after zero h none-ahead = omega arith
@@ -82,7 +82,7 @@ pub acts-agree : (mode : RuleEngineMode) (d : DisruptiveOutcome) → isAllow d �
 acts-agree mode d e = rw e
 
 -- a unit of one rule has the same controls in both
-pub controls-agree : (q : Call) (m : ℕ) (c : Controls) → rustClosed q (m ∷ []) c ≡ manualMatched q m c
+pub controls-agree : (q : Given) (m : ℕ) (c : Controls) → rustClosed q (m ∷ []) c ≡ manualMatched q m c
 controls-agree q m c = refl
 
 -- redirect has the same status but for a status action of 301, 303 or 307
@@ -125,11 +125,11 @@ unfolding lastOf lastFlow
 flows-agree ps h = ap flowBy (flow-tests none ps h)
 
 -- phases 1 to 4 are entered alike, and stopped alike
-pub enters-agree : (q : Call) → (q .phase ≡ 5 → ⊥) → manualEnters q ≡ rustEnters q
-enters-agree q h = ap (λ (b : Bool). b || rustEnters q) (ne-eqb (q .phase) 5 h)
+pub enters-agree : (q : Given) (t : Transaction) → (q .settings .phase ≡ 5 → ⊥) → manualEnters q t ≡ rustEnters t
+enters-agree q t h = ap (λ (b : Bool). b || rustEnters t) (ne-eqb (q .settings .phase) 5 h)
 
-pub stops-agree : (q : Call) → (q .phase ≡ 5 → ⊥) → manualStops q ≡ rustStops q
-stops-agree q h = ap not (ne-eqb (q .phase) 5 h)
+pub stops-agree : (q : Given) → (q .settings .phase ≡ 5 → ⊥) → manualStops q ≡ rustStops q
+stops-agree q h = ap not (ne-eqb (q .settings .phase) 5 h)
 
 -- a value without a comma is read alike
 pub removals-agree : (value : List ℕ) → idParts value ≡ value ∷ [] → manualRemoval value ≡ rustRemoval value
@@ -145,10 +145,10 @@ removals-agree value h =
 
 -- THE RUST'S RULES OF Manual.antt ARE THE WALK'S
 
-pub walk-skips : (q : Call) (after n : ℕ) → afterFlow q after (FlowOutcome.Skip n) ≡ rustSkip after n
+pub walk-skips : (q : Given) (after n : ℕ) → afterFlow q after (FlowOutcome.Skip n) ≡ rustSkip after n
 walk-skips q after n = refl
 
-pub walk-acts : (q : Call) (unit : List ℕ) (c : Controls) (d : DisruptiveOutcome) → isLast (endingBy q unit c d) ≡ rustActs (modeUnder q c) d
+pub walk-acts : (q : Given) (unit : List ℕ) (c : Controls) (d : DisruptiveOutcome) → isLast (endingBy q unit c d) ≡ rustActs (modeUnder q c) d
 walk-acts q unit c d = by (isAllow d) (isStopping d && isOn (modeUnder q c))
   where
     by : (a b : Bool) → isLast (cond a allows (cond b (stops (unitIntervention q unit)) goesOn)) ≡ (a || b)
@@ -157,22 +157,22 @@ walk-acts q unit c d = by (isAllow d) (isStopping d && isOn (modeUnder q c))
     by false false = refl
 
 -- a call that is not entered has nothing to do
-pub walk-enters : (q : Call) → rustEnters q ≡ false → nothingToDo q ≡ true
-walk-enters q h =
-    by (q .transaction .allowed) (isStopped (q .transaction .intervention)) (isOff (modeUnder q (q .transaction .controls))) (eqb (ruleCount q) 0) h
+pub walk-enters : (q : Given) (t : Transaction) → rustEnters t ≡ false → nothingToDo q t ≡ true
+walk-enters q t h =
+    by (t .allowed) (isStopped (t .intervention)) (isOff (modeUnder q (t .controls))) (eqb (ruleCount q) 0) h
   where
     by : (a b c d : Bool) → not (a || b) ≡ false → (a || b || c || d) ≡ true
     by true b c d e = refl
     by false true c d e = refl
     by false false c d e = absurd (let y : _≡_ {A = ℕ} 0 1 = cc in omega arith)
 
-pub walk-link : (q : Call) (st : State) → visitBy q st Verdict.Matched true .after .controls ≡ rustLink (st .controls)
+pub walk-link : (q : Given) (st : State) → visitBy q st Verdict.Matched true .after .controls ≡ rustLink (st .controls)
 walk-link q st = refl
 
-pub walk-closed : (q : Call) (st : State) → visitBy q st Verdict.Matched false .after .controls ≡ rustClosed q (st .members ++ (st .next ∷ [])) (st .controls)
+pub walk-closed : (q : Given) (st : State) → visitBy q st Verdict.Matched false .after .controls ≡ rustClosed q (st .members ++ (st .next ∷ [])) (st .controls)
 walk-closed q st = refl
 
-pub walk-redirects : (q : Call) (ps : List Placed) (at : ℕ) → stopStatus q ps (DisruptiveOutcome.Redirect at) ≡ rustRedirectStatus (lastStatus ps)
+pub walk-redirects : (q : Given) (ps : List Placed) (at : ℕ) → stopStatus q ps (DisruptiveOutcome.Redirect at) ≡ rustRedirectStatus (lastStatus ps)
 walk-redirects q ps at = refl
 
 -- WHAT DOES NOT DEPEND ON THE READING
@@ -180,19 +180,17 @@ walk-redirects q ps at = refl
 -- the call with another reading
 abbrev pub underReading : Reading → Call → Call
 underReading r q = record {
-  reading = r;
-  phase = q .phase;
-  mode = q .mode;
-  status = q .status;
-  rules = q .rules;
-  actions = q .actions;
-  markers = q .markers;
-  text = q .text;
-  outcomes = q .outcomes;
+  given = record {
+    reading = r;
+    settings = q .given .settings;
+    rules = q .given .rules;
+    actions = q .given .actions;
+    markers = q .given .markers;
+    text = q .given .text;
+    outcomes = q .given .outcomes;
+  };
   transaction = q .transaction;
-  ids = q .ids;
-  data-entries = q .data-entries;
-  journal = q .journal;
+  lists = q .lists;
 }
 
 -- no refusal depends on the reading

@@ -10,7 +10,7 @@ use Rattle.reading.specs.declared.DisruptiveOutcome.{DisruptiveOutcome}
 use Rattle.reading.specs.declared.OptionIntervention.{OptionIntervention}
 use Rattle.reading.specs.Lists.{keep, any}
 use Rattle.reading.specs.Controls.{Controls, isOn}
-use Rattle.reading.specs.Call.{Call, isLink, modeUnder, ruleCount}
+use Rattle.reading.specs.Call.{Given, Transaction, isLink, modeUnder, ruleCount}
 use Rattle.reading.specs.Units.{unitControls, unitDisruptive, unitIntervention, isAllow, isStopping}
 use Rattle.reading.specs.Walk.{State, Visit, Ending, goesOn, allows, errs, stops, isLast, givesAllow, interventionOr, visitBy, visitAt, verdictAt, isVisited, walk, walkOf, start, nothingToDo, entryOf, journalOf, closedIn, controlsAfter, allowedBy, interventionBy}
 use Rattle.reading.specs.Replay.{heldAfter, closedBy, unitsFrom, lastClosedFrom, unitsControls, unitAllows, stopOf}
@@ -18,7 +18,7 @@ use Rattle.lists.proofs.Tests.{any-append}
 
 -- ONE VISIT, by what the rule is found to be and by whether it is a link
 
-module _ (q : Call) (st : State) where
+module _ (q : Given) (st : State) where
   -- the members after a visit are those that the replay holds after its entry
   held-is : (v : Verdict) (l : Bool) → isLink q (st .next) ≡ l
       → visitBy q st v l .after .members ≡ heldAfter q (st .members) (entryOf (visitBy q st v l))
@@ -49,13 +49,13 @@ module _ (q : Call) (st : State) where
   controls-are Verdict.Error l = refl
 
 -- an ending's tests, by the two conditions of 01
-ending-allow : (q : Call) (unit : List ℕ) (a b : Bool)
+ending-allow : (q : Given) (unit : List ℕ) (a b : Bool)
     → givesAllow (cond a allows (cond b (stops (unitIntervention q unit)) goesOn)) ≡ (a || false)
 ending-allow q unit true b = refl
 ending-allow q unit false true = refl
 ending-allow q unit false false = refl
 
-ending-stop : (q : Call) (unit : List ℕ) (d : DisruptiveOutcome) (on : Bool)
+ending-stop : (q : Given) (unit : List ℕ) (d : DisruptiveOutcome) (on : Bool)
     → interventionOr (cond (isAllow d) allows (cond (isStopping d && on) (stops (unitIntervention q unit)) goesOn)) OptionIntervention.None
     ≡ cond (isStopping d && on) (OptionIntervention.Some (unitIntervention q unit)) OptionIntervention.None
 ending-stop q unit DisruptiveOutcome.Nothing on = refl
@@ -70,7 +70,7 @@ ending-stop q unit (DisruptiveOutcome.Redirect at) false = refl
 ending-stop q unit DisruptiveOutcome.Drop true = refl
 ending-stop q unit DisruptiveOutcome.Drop false = refl
 
-module _ (q : Call) (st : State) where
+module _ (q : Given) (st : State) where
   -- a visit gives allow where the unit that it closes does
   allow-is : (v : Verdict) (l : Bool) → givesAllow (visitBy q st v l .ending) ≡ any (unitAllows q) (visitBy q st v l .closed)
   allow-is Verdict.Missed l = refl
@@ -106,33 +106,33 @@ not-last (stops i) other h = absurd (bool-absurd h)
 
 -- SEVERAL VISITS
 
-controls-append : (q : Call) (us vs : List (List ℕ)) (c : Controls) → unitsControls q (us ++ vs) c ≡ unitsControls q vs (unitsControls q us c)
+controls-append : (q : Given) (us vs : List (List ℕ)) (c : Controls) → unitsControls q (us ++ vs) c ≡ unitsControls q vs (unitsControls q us c)
 controls-append q [] vs c = refl
 controls-append q (u ∷ us) vs c = controls-append q us vs (unitControls q u c)
 
 -- what is claimed of visits that began with the members ms of an open chain and the controls c
-pub record Replayed (q : Call) (ms : List ℕ) (c : Controls) (l : List Visit) : Type 0 where
+pub record Replayed (q : Given) (ms : List ℕ) (c : Controls) (l : List Visit) : Type 0 where
   pub units : closedIn l ≡ unitsFrom q ms (journalOf l)
   pub controls : controlsAfter c l ≡ unitsControls q (closedIn l) c
   pub allow : allowedBy l ≡ any (unitAllows q) (closedIn l)
   pub intervention : interventionBy l ≡ stopOf q (lastClosedFrom q ms (journalOf l)) (controlsAfter c l)
 
-none-replayed : (q : Call) (ms : List ℕ) (c : Controls) → Replayed q ms c []
+none-replayed : (q : Given) (ms : List ℕ) (c : Controls) → Replayed q ms c []
 none-replayed q ms c = record { units = refl; controls = refl; allow = refl; intervention = refl }
 
-kept-replayed : (q : Call) (ms : List ℕ) (c : Controls) (b : Bool) (l : List Visit) → Replayed q ms c l → Replayed q ms c (keep b l)
+kept-replayed : (q : Given) (ms : List ℕ) (c : Controls) (b : Bool) (l : List Visit) → Replayed q ms c l → Replayed q ms c (keep b l)
 kept-replayed q ms c true l r = r
 kept-replayed q ms c false l r = none-replayed q ms c
 
 -- what one visit is, as the replay sees it
-record Seen (q : Call) (ms : List ℕ) (c : Controls) (v : Visit) : Type 0 where
+record Seen (q : Given) (ms : List ℕ) (c : Controls) (v : Visit) : Type 0 where
   held : v .after .members ≡ heldAfter q ms (entryOf v)
   closed : v .closed ≡ closedBy q ms (entryOf v)
   controls : v .after .controls ≡ unitsControls q (v .closed) c
   allow : givesAllow (v .ending) ≡ any (unitAllows q) (v .closed)
   stop : interventionOr (v .ending) OptionIntervention.None ≡ stopOf q (v .closed) (v .after .controls)
 
-one-more : (q : Call) (ms : List ℕ) (c : Controls) (v : Visit) (l : List Visit) → Seen q ms c v
+one-more : (q : Given) (ms : List ℕ) (c : Controls) (v : Visit) (l : List Visit) → Seen q ms c v
     → interventionBy (v ∷ l) ≡ stopOf q (lastClosedFrom q ms (journalOf (v ∷ l))) (controlsAfter c (v ∷ l))
     → Replayed q (v .after .members) (v .after .controls) l → Replayed q ms c (v ∷ l)
 one-more q ms c v l s i r =
@@ -144,14 +144,14 @@ one-more q ms c v l s i r =
     }
 
 -- the intervention after one more visit, where the others, if any, follow one that was not the last
-stop-more : (q : Call) (ms : List ℕ) (c : Controls) (v : Visit) (l : List Visit) → Seen q ms c v → isLast (v .ending) ≡ false
+stop-more : (q : Given) (ms : List ℕ) (c : Controls) (v : Visit) (l : List Visit) → Seen q ms c v → isLast (v .ending) ≡ false
     → Replayed q (v .after .members) (v .after .controls) l
     → interventionBy (v ∷ l) ≡ stopOf q (lastClosedFrom q ms (journalOf (v ∷ l))) (controlsAfter c (v ∷ l))
 stop-more q ms c v [] s e r = rw (← s .closed) (s .stop)
 stop-more q ms c v (w ∷ ws) s e r = not-last (v .ending) (interventionBy (w ∷ ws)) e ∙ rw (← s .held) (r .intervention)
 
 -- a visit and, where it is not the last, those after it
-visit-more : (q : Call) (ms : List ℕ) (c : Controls) (v : Visit) (l : List Visit) → Seen q ms c v
+visit-more : (q : Given) (ms : List ℕ) (c : Controls) (v : Visit) (l : List Visit) → Seen q ms c v
     → Replayed q (v .after .members) (v .after .controls) l → Replayed q ms c (v ∷ keep (not (isLast (v .ending))) l)
 visit-more q ms c v l s r = by (isLast (v .ending)) refl
   where
@@ -159,7 +159,7 @@ visit-more q ms c v l s r = by (isLast (v .ending)) refl
     by true e = one-more q ms c v [] s (rw (← s .closed) (s .stop)) (none-replayed q (v .after .members) (v .after .controls))
     by false e = one-more q ms c v l s (stop-more q ms c v l s e r) r
 
-seen : (q : Call) (st : State) (v : Verdict) (l : Bool) → isLink q (st .next) ≡ l → Seen q (st .members) (st .controls) (visitBy q st v l)
+seen : (q : Given) (st : State) (v : Verdict) (l : Bool) → isLink q (st .next) ≡ l → Seen q (st .members) (st .controls) (visitBy q st v l)
 seen q st v l e =
     record {
       held = held-is q st v l e;
@@ -169,7 +169,7 @@ seen q st v l e =
       stop = stop-is q st v l;
     }
 
-replays : (k : ℕ) (q : Call) (st : State) → Replayed q (st .members) (st .controls) (walk k q st)
+replays : (k : ℕ) (q : Given) (st : State) → Replayed q (st .members) (st .controls) (walk k q st)
 unfolding walk visitAt
 replays zero q st = none-replayed q (st .members) (st .controls)
 replays (suc k) q st =
@@ -180,7 +180,7 @@ replays (suc k) q st =
     (replays k q (v .after)))
 
 -- the whole walk
-pub walk-replayed : (q : Call) → Replayed q [] (q .transaction .controls) (walkOf q)
+pub walk-replayed : (q : Given) (t : Transaction) → Replayed q [] (t .controls) (walkOf q t)
 unfolding walkOf
-walk-replayed q =
-    kept-replayed q [] (q .transaction .controls) (not (nothingToDo q)) (walk (ruleCount q) q (start q)) (replays (ruleCount q) q (start q))
+walk-replayed q t =
+    kept-replayed q [] (t .controls) (not (nothingToDo q t)) (walk (ruleCount q) q (start t)) (replays (ruleCount q) q (start t))

@@ -16,13 +16,12 @@ use Rattle.reading.specs.Lists.{keep}
 use Rattle.reading.specs.Controls.{isOff}
 use Rattle.reading.specs.Markers.{markerPosition}
 use Rattle.reading.specs.Reading.{Reading, jumps}
-use Rattle.reading.specs.Call.{Call, ruleCount, isLink, modeUnder}
+use Rattle.reading.specs.Call.{Given, Transaction, ruleCount, isLink, modeUnder}
 use Rattle.reading.specs.Units.{unitFlow}
 use Rattle.reading.specs.Demand3.{Rises}
 use Rattle.reading.specs.Walk.{State, Visit, isLast, chainRest, afterChain, jumpFrom, markerName, afterFlow, visitBy, visitAt, verdictAt, isVisited, walk, walkOf, start, nothingToDo, journalOf}
 use Rattle.lists.proofs.Tests.{and-true}
 
--- a conjunction that is true, by its parts
 -- a chain has at least the rule that it is asked from
 rest-positive : (rs : List Rule) (i : ℕ) → i < length rs → 0 < chainRest (drop i rs)
 rest-positive (r ∷ rs) zero h = by (eqb (r .link) 1)
@@ -32,7 +31,7 @@ rest-positive (r ∷ rs) zero h = by (eqb (r .link) 1)
     by false = omega arith
 rest-positive (r ∷ rs) (suc i) h = rest-positive rs i (omega arith)
 
-pub chain-ahead : (q : Call) (i : ℕ) → i < ruleCount q → i < afterChain q i
+pub chain-ahead : (q : Given) (i : ℕ) → i < ruleCount q → i < afterChain q i
 unfolding afterChain
 chain-ahead q i h = omega (arith, rest-positive (q .rules) i h)
 
@@ -46,7 +45,7 @@ jumps-ahead r position after e = by (ltb after position) (r .adjacent) (eqb posi
     by false true false p s h = absurd (let y : _≡_ {A = ℕ} 0 1 = cc in omega arith)
     by false false c p s h = absurd (let y : _≡_ {A = ℕ} 0 1 = cc in omega arith)
 
-jump-ahead : (q : Call) (i : ℕ) (found : OptionU64) → i < ruleCount q → i < jumpFrom q (suc i) found
+jump-ahead : (q : Given) (i : ℕ) (found : OptionU64) → i < ruleCount q → i < jumpFrom q (suc i) found
 jump-ahead q i OptionU64.None h = h
 jump-ahead q i (OptionU64.Some position) h = by (jumps (q .reading) position (suc i)) refl
   where
@@ -54,14 +53,14 @@ jump-ahead q i (OptionU64.Some position) h = by (jumps (q .reading) position (su
     by true e = omega (arith, jumps-ahead (q .reading) position (suc i) e)
     by false e = h
 
-flow-ahead : (q : Call) (i : ℕ) (f : FlowOutcome) → i < ruleCount q → i < afterFlow q (suc i) f
+flow-ahead : (q : Given) (i : ℕ) (f : FlowOutcome) → i < ruleCount q → i < afterFlow q (suc i) f
 flow-ahead q i FlowOutcome.Continue h = omega arith
 flow-ahead q i FlowOutcome.Chain h = omega arith
 flow-ahead q i (FlowOutcome.Skip n) h = omega arith
 flow-ahead q i (FlowOutcome.SkipAfter position) h = jump-ahead q i (markerPosition (q .text) (q .markers) (markerName q position)) h
 
 -- every visit goes on to a greater index
-pub goes-ahead : (q : Call) (st : State) (v : Verdict) (l : Bool) → st .next < ruleCount q → st .next < visitBy q st v l .after .next
+pub goes-ahead : (q : Given) (st : State) (v : Verdict) (l : Bool) → st .next < ruleCount q → st .next < visitBy q st v l .after .next
 goes-ahead q st Verdict.Missed l h = chain-ahead q (st .next) h
 goes-ahead q st Verdict.Matched true h = omega arith
 goes-ahead q st Verdict.Matched false h = flow-ahead q (st .next) (unitFlow q (st .members ++ (st .next ∷ []))) h
@@ -70,7 +69,7 @@ goes-ahead q st Verdict.Removed false h = omega arith
 goes-ahead q st Verdict.Error l h = omega arith
 
 -- a visit has the index that the state says
-pub index-is : (q : Call) (st : State) (v : Verdict) (l : Bool) → visitBy q st v l .index ≡ st .next
+pub index-is : (q : Given) (st : State) (v : Verdict) (l : Bool) → visitBy q st v l .index ≡ st .next
 index-is q st Verdict.Missed l = refl
 index-is q st Verdict.Matched true = refl
 index-is q st Verdict.Matched false = refl
@@ -78,7 +77,7 @@ index-is q st Verdict.Removed true = refl
 index-is q st Verdict.Removed false = refl
 index-is q st Verdict.Error l = refl
 
-pub visited-within : (q : Call) (st : State) → isVisited q st ≡ true → st .next < ruleCount q
+pub visited-within : (q : Given) (st : State) → isVisited q st ≡ true → st .next < ruleCount q
 visited-within q st e = ltb-true (st .next) (ruleCount q) (and-true (ltb (st .next) (ruleCount q)) (not (isOff (modeUnder q (st .controls)))) e .0)
 
 weaker : (n a b : ℕ) (l : List JournalEntry) → a ≤ b → Rises n b l → Rises n a l
@@ -93,7 +92,7 @@ one-rises : (n : ℕ) (v : Visit) (l : List Visit) (at : ℕ) → v .index ≡ a
     → Rises n (v .after .next) (journalOf l) → Rises n at (journalOf (v ∷ l))
 one-rises n v l at e h g r = (omega arith, omega arith, weaker n (suc (v .index)) (v .after .next) (journalOf l) (omega arith) r)
 
-turn-rises : (q : Call) (st : State) (rest : List Visit) (b : Bool) → isVisited q st ≡ b
+turn-rises : (q : Given) (st : State) (rest : List Visit) (b : Bool) → isVisited q st ≡ b
     → Rises (ruleCount q) (visitAt q st .after .next) (journalOf rest)
     → Rises (ruleCount q) (st .next) (journalOf (keep b (visitAt q st ∷ keep (not (isLast (visitAt q st .ending))) rest)))
 unfolding visitAt
@@ -106,19 +105,19 @@ turn-rises q st rest true e r =
     one-rises (ruleCount q) v (keep (not (isLast (v .ending))) rest) (st .next) (index-is q st verdict link) h (goes-ahead q st verdict link h)
     (kept-rises (ruleCount q) (v .after .next) (not (isLast (v .ending))) rest r)
 
-rises : (k : ℕ) (q : Call) (st : State) → Rises (ruleCount q) (st .next) (journalOf (walk k q st))
+rises : (k : ℕ) (q : Given) (st : State) → Rises (ruleCount q) (st .next) (journalOf (walk k q st))
 unfolding walk
 rises zero q st = tt
 rises (suc k) q st = turn-rises q st (walk k q (visitAt q st .after)) (isVisited q st) refl (rises k q (visitAt q st .after))
 
 -- demand 3: "the indexes strictly rising"
-pub indexes-rise : (q : Call) → Rises (ruleCount q) 0 (journalOf (walkOf q))
+pub indexes-rise : (q : Given) (t : Transaction) → Rises (ruleCount q) 0 (journalOf (walkOf q t))
 unfolding walkOf
-indexes-rise q = kept-rises (ruleCount q) 0 (not (nothingToDo q)) (walk (ruleCount q) q (start q)) (rises (ruleCount q) q (start q))
+indexes-rise q t = kept-rises (ruleCount q) 0 (not (nothingToDo q t)) (walk (ruleCount q) q (start t)) (rises (ruleCount q) q (start t))
 
 -- THE WALK ENDS BY ITSELF: it is cut nowhere by the count of visits that it is given
 
-turn-enough : (q : Call) (st : State) (rest more : List Visit) (b : Bool) → isVisited q st ≡ b
+turn-enough : (q : Given) (st : State) (rest more : List Visit) (b : Bool) → isVisited q st ≡ b
     → (st .next < visitAt q st .after .next → more ≡ rest)
     → keep b (visitAt q st ∷ keep (not (isLast (visitAt q st .ending))) more) ≡ keep b (visitAt q st ∷ keep (not (isLast (visitAt q st .ending))) rest)
 unfolding visitAt
@@ -129,11 +128,11 @@ turn-enough q st rest more true e h =
     let v : Visit = visitBy q st verdict link in
     ap (λ (l : List Visit). v ∷ keep (not (isLast (v .ending))) l) (h (goes-ahead q st verdict link (visited-within q st e)))
 
-no-visit : (q : Call) (st : State) (l : List Visit) (b : Bool) → isVisited q st ≡ b → ruleCount q ≤ st .next → keep b l ≡ []
+no-visit : (q : Given) (st : State) (l : List Visit) (b : Bool) → isVisited q st ≡ b → ruleCount q ≤ st .next → keep b l ≡ []
 no-visit q st l false e h = refl
 no-visit q st l true e h = absurd (omega (arith, visited-within q st e))
 
-one-enough : (k : ℕ) (q : Call) (st : State) → ruleCount q ≤ k + st .next → walk (suc k) q st ≡ walk k q st
+one-enough : (k : ℕ) (q : Given) (st : State) → ruleCount q ≤ k + st .next → walk (suc k) q st ≡ walk k q st
 unfolding walk
 one-enough zero q st h =
     no-visit q st (visitAt q st ∷ keep (not (isLast (visitAt q st .ending))) (walk zero q (visitAt q st .after))) (isVisited q st) refl (omega arith)
@@ -141,10 +140,10 @@ one-enough (suc k) q st h =
     turn-enough q st (walk k q (visitAt q st .after)) (walk (suc k) q (visitAt q st .after)) (isVisited q st) refl
     (λ g. one-enough k q (visitAt q st .after) (omega arith))
 
-pub walk-complete : (q : Call) (more : ℕ) → walk (ruleCount q + more) q (start q) ≡ walk (ruleCount q) q (start q)
-walk-complete q zero =
+pub walk-complete : (q : Given) (t : Transaction) (more : ℕ) → walk (ruleCount q + more) q (start t) ≡ walk (ruleCount q) q (start t)
+walk-complete q t zero =
     let z : ruleCount q + 0 ≡ ruleCount q = omega arith in
-    ap (λ (k : ℕ). walk k q (start q)) z
-walk-complete q (suc more) =
+    ap (λ (k : ℕ). walk k q (start t)) z
+walk-complete q t (suc more) =
     let z : ruleCount q + suc more ≡ suc (ruleCount q + more) = omega arith in
-    ap (λ (k : ℕ). walk k q (start q)) z ∙ one-enough (ruleCount q + more) q (start q) (omega arith) ∙ walk-complete q more
+    ap (λ (k : ℕ). walk k q (start t)) z ∙ one-enough (ruleCount q + more) q (start t) (omega arith) ∙ walk-complete q t more

@@ -17,7 +17,7 @@ use Rattle.reading.specs.Numbers.{listOf}
 use Rattle.reading.specs.Directive.{Directive, ruleEngine, ruleRemoveById, ruleRemoveTargetById, requestBodyAccess, requestBodyProcessor, unsupported, rangeCount, targetCount}
 use Rattle.reading.specs.Controls.{Controls, applied}
 use Rattle.reading.specs.Actions.{Placed, controlsIn, directiveIn}
-use Rattle.reading.specs.Call.{Call, ruleCount, ruleAt, noRule, isLink, idAt, outcomeAt, actionsAt}
+use Rattle.reading.specs.Call.{Given, Call, Transaction, ruleCount, ruleAt, noRule, isLink, idAt, outcomeAt, actionsAt}
 use Rattle.reading.specs.Units.{starterOf, unitIds, unitData, memberData, dataEntry, actionControls, ruleControls, unitControls}
 use Rattle.reading.specs.Walk.{State, Visit, isLast, visitBy, visitAt, verdictAt, isVisited, walk, walkOf, start, nothingToDo, journalOf, closedIn, idsOf, dataOf, controlsAfter}
 use Rattle.reading.specs.Replay.{unitsControls}
@@ -75,7 +75,7 @@ total-kept w true xs = omega arith
 total-kept w false xs = omega arith
 
 -- one visit: what it closes and what it holds weigh no more than what was held and its own rule
-visit-weighs : (w : ℕ → ℕ) (q : Call) (st : State) (v : Verdict) (l : Bool)
+visit-weighs : (w : ℕ → ℕ) (q : Given) (st : State) (v : Verdict) (l : Bool)
     → total (total w) (visitBy q st v l .closed) + total w (visitBy q st v l .after .members) ≤ total w (st .members) + w (st .next)
 visit-weighs w q st Verdict.Missed l = omega arith
 visit-weighs w q st Verdict.Matched true = omega (arith, total-more w (st .members) (st .next))
@@ -85,14 +85,14 @@ visit-weighs w q st Verdict.Removed false = omega (arith, total-kept w (not (q .
 visit-weighs w q st Verdict.Error l = omega arith
 
 -- visits from a state on
-abbrev Weighs : (ℕ → ℕ) → Call → State → List Visit → Type 0
+abbrev Weighs : (ℕ → ℕ) → Given → State → List Visit → Type 0
 Weighs w q st l = total (total w) (closedIn l) ≤ total w (st .members) + ahead w (ruleCount q - st .next) (st .next)
 
-kept-weighs : (w : ℕ → ℕ) (q : Call) (st : State) (b : Bool) (l : List Visit) → Weighs w q st l → Weighs w q st (keep b l)
+kept-weighs : (w : ℕ → ℕ) (q : Given) (st : State) (b : Bool) (l : List Visit) → Weighs w q st l → Weighs w q st (keep b l)
 kept-weighs w q st true l h = h
 kept-weighs w q st false l h = omega arith
 
-turn-weighs : (w : ℕ → ℕ) (q : Call) (st : State) (rest : List Visit) (b : Bool) → isVisited q st ≡ b → Weighs w q (visitAt q st .after) rest
+turn-weighs : (w : ℕ → ℕ) (q : Given) (st : State) (rest : List Visit) (b : Bool) → isVisited q st ≡ b → Weighs w q (visitAt q st .after) rest
     → Weighs w q st (keep b (visitAt q st ∷ keep (not (isLast (visitAt q st .ending))) rest))
 unfolding visitAt
 turn-weighs w q st rest false e r = omega arith
@@ -110,16 +110,16 @@ turn-weighs w q st rest true e r =
       with-later w (ruleCount q) (st .next) (v .after .next) h (goes-ahead q st verdict link h),
     )
 
-weighs : (w : ℕ → ℕ) (k : ℕ) (q : Call) (st : State) → Weighs w q st (walk k q st)
+weighs : (w : ℕ → ℕ) (k : ℕ) (q : Given) (st : State) → Weighs w q st (walk k q st)
 unfolding walk
 weighs w zero q st = omega arith
 weighs w (suc k) q st = turn-weighs w q st (walk k q (visitAt q st .after)) (isVisited q st) refl (weighs w k q (visitAt q st .after))
 
-pub closed-weigh : (w : ℕ → ℕ) (q : Call) → total (total w) (closedIn (walkOf q)) ≤ ahead w (ruleCount q) 0
+pub closed-weigh : (w : ℕ → ℕ) (q : Given) (t : Transaction) → total (total w) (closedIn (walkOf q t)) ≤ ahead w (ruleCount q) 0
 unfolding walkOf
-closed-weigh w q =
+closed-weigh w q t =
     let z : ruleCount q - 0 ≡ ruleCount q = omega arith in
-    omega (arith, rw z at (kept-weighs w q (start q) (not (nothingToDo q)) (walk (ruleCount q) q (start q)) (weighs w (ruleCount q) q (start q))))
+    omega (arith, rw z at (kept-weighs w q (start t) (not (nothingToDo q t)) (walk (ruleCount q) q (start t)) (weighs w (ruleCount q) q (start t))))
 
 -- the weight of all indexes is that of all rules
 ahead-shift : (f : Rule → ℕ) (r : Rule) (rs : List Rule) (k i : ℕ)
@@ -163,12 +163,12 @@ targets-counted = record { by-one = one }
     one c at (requestBodyProcessor p) = omega arith
     one c at unsupported = omega arith
 
-module _ (q : Call) (count : Controls → ℕ) (given : Directive → ℕ) (counted : Counted count given) where
+module _ (q : Given) (count : Controls → ℕ) (given : Directive → ℕ) (counted : Counted count given) where
   actions-count : (ps : List Placed) (c : Controls)
       → count (actionControls q ps c) ≡ count c + total (λ p. given (directiveIn (q .text) p)) ps
   actions-count [] c = omega arith
   actions-count (p ∷ ps) c =
-      let at : Place = record { phase = q .phase; position = p .position } in
+      let at : Place = record { phase = q .settings .phase; position = p .position } in
       let d : Directive = directiveIn (q .text) p in
       omega (arith, actions-count ps (applied c at d), counted .by-one c at d)
 
@@ -184,13 +184,13 @@ module _ (q : Call) (count : Controls → ℕ) (given : Directive → ℕ) (coun
   units-count (u ∷ us) c = omega (arith, units-count us (unitControls q u c), unit-count u c)
 
   -- the controls after the whole walk count at most those held and those of all rules
-  walk-count : count (controlsAfter (q .transaction .controls) (walkOf q)) ≤ count (q .transaction .controls) + total (ruleTotal q given) (q .rules)
-  walk-count =
+  walk-count : (t : Transaction) → count (controlsAfter (t .controls) (walkOf q t)) ≤ count (t .controls) + total (ruleTotal q given) (q .rules)
+  walk-count t =
       omega (
         arith,
-        ap count (walk-replayed q .controls),
-        units-count (closedIn (walkOf q)) (q .transaction .controls),
-        closed-weigh (λ m. ruleTotal q given (getD (q .rules) m noRule)) q,
+        ap count (walk-replayed q t .controls),
+        units-count (closedIn (walkOf q t)) (t .controls),
+        closed-weigh (λ m. ruleTotal q given (getD (q .rules) m noRule)) q t,
         ahead-rules (ruleTotal q given) (q .rules),
       )
 
@@ -199,12 +199,12 @@ one-id : (i : OptionU64) → length (listOf i) ≤ 1
 one-id OptionU64.None = omega arith
 one-id (OptionU64.Some n) = omega arith
 
-ids-few : (q : Call) (us : List (List ℕ)) → length (gather (unitIds q) us) ≤ length us
+ids-few : (q : Given) (us : List (List ℕ)) → length (gather (unitIds q) us) ≤ length us
 ids-few q [] = omega arith
 ids-few q (u ∷ us) =
     omega (arith, length-append (unitIds q u) (gather (unitIds q) us), one-id (idAt q (starterOf u)), ids-few q us)
 
-one-unit : (q : Call) (st : State) (v : Verdict) (l : Bool) → length (visitBy q st v l .closed) ≤ 1
+one-unit : (q : Given) (st : State) (v : Verdict) (l : Bool) → length (visitBy q st v l .closed) ≤ 1
 one-unit q st Verdict.Missed l = omega arith
 one-unit q st Verdict.Matched true = omega arith
 one-unit q st Verdict.Matched false = omega arith
@@ -228,7 +228,7 @@ one-few : (k : ℕ) (v : Visit) (l : List Visit) → length (v .closed) ≤ 1 �
 one-few k v l h f =
     record { visits = omega (arith, f .visits); units = omega (arith, length-append (v .closed) (closedIn l), f .units) }
 
-few : (k : ℕ) (q : Call) (st : State) → Few k (walk k q st)
+few : (k : ℕ) (q : Given) (st : State) → Few k (walk k q st)
 unfolding walk visitAt
 few zero q st = no-more 0
 few (suc k) q st =
@@ -238,36 +238,36 @@ few (suc k) q st =
     (one-unit q st (verdictAt q (st .controls) (st .next)) (isLink q (st .next)))
     (kept-few k (not (isLast (v .ending))) (walk k q (v .after)) (few k q (v .after))))
 
-walk-few : (q : Call) → Few (ruleCount q) (walkOf q)
+walk-few : (q : Given) (t : Transaction) → Few (ruleCount q) (walkOf q t)
 unfolding walkOf
-walk-few q = kept-few (ruleCount q) (not (nothingToDo q)) (walk (ruleCount q) q (start q)) (few (ruleCount q) q (start q))
+walk-few q t = kept-few (ruleCount q) (not (nothingToDo q t)) (walk (ruleCount q) q (start t)) (few (ruleCount q) q (start t))
 
 -- at most one data entry a member
-one-entry : (q : Call) (s m : ℕ) → length (memberData q s m) ≤ 1
+one-entry : (q : Given) (s m : ℕ) → length (memberData q s m) ≤ 1
 one-entry q s m = by (eqb (outcomeAt q m) 2)
   where
     by : (b : Bool) → length (keep b (dataEntry q s m ∷ [])) ≤ 1
     by true = omega arith
     by false = omega arith
 
-members-data : (q : Call) (s : ℕ) (ms : List ℕ) → length (gather (memberData q s) ms) ≤ total (λ m. 1) ms
+members-data : (q : Given) (s : ℕ) (ms : List ℕ) → length (gather (memberData q s) ms) ≤ total (λ m. 1) ms
 members-data q s [] = omega arith
 members-data q s (m ∷ ms) =
     omega (arith, length-append (memberData q s m) (gather (memberData q s) ms), one-entry q s m, members-data q s ms)
 
-units-data : (q : Call) (us : List (List ℕ)) → length (gather (unitData q) us) ≤ total (total (λ m. 1)) us
+units-data : (q : Given) (us : List (List ℕ)) → length (gather (unitData q) us) ≤ total (total (λ m. 1)) us
 units-data q [] = omega arith
 units-data q (u ∷ us) =
     omega (arith, length-append (unitData q u) (gather (unitData q) us), members-data q (starterOf u) u, units-data q us)
 
-pub ids-within : (q : Call) → length (idsOf q (walkOf q)) ≤ ruleCount q
-ids-within q = omega (arith, ids-few q (closedIn (walkOf q)), walk-few q .units)
+pub ids-within : (q : Given) (t : Transaction) → length (idsOf q (walkOf q t)) ≤ ruleCount q
+ids-within q t = omega (arith, ids-few q (closedIn (walkOf q t)), walk-few q t .units)
 
-pub data-within : (q : Call) → length (dataOf q (walkOf q)) ≤ ruleCount q
-data-within q = omega (arith, units-data q (closedIn (walkOf q)), closed-weigh (λ m. 1) q, ahead-ones (ruleCount q) 0)
+pub data-within : (q : Given) (t : Transaction) → length (dataOf q (walkOf q t)) ≤ ruleCount q
+data-within q t = omega (arith, units-data q (closedIn (walkOf q t)), closed-weigh (λ m. 1) q t, ahead-ones (ruleCount q) 0)
 
-pub visits-within : (q : Call) → length (walkOf q) ≤ ruleCount q
-visits-within q = walk-few q .visits
+pub visits-within : (q : Given) (t : Transaction) → length (walkOf q t) ≤ ruleCount q
+visits-within q t = walk-few q t .visits
 
 -- AN ACCEPTED CALL
 
@@ -313,48 +313,48 @@ passed q e =
     }
 
 -- an accepted call's visits are the walk
-pub accepted-visits : (q : Call) → refusalOf q ≡ 0 → visitsOf q ≡ walkOf q
+pub accepted-visits : (q : Call) → refusalOf q ≡ 0 → visitsOf q ≡ walkOf (q .given) (q .transaction)
 unfolding visitsOf
-accepted-visits q e = ap (λ (n : ℕ). keep (eqb n 0) (walkOf q)) e
+accepted-visits q e = ap (λ (n : ℕ). keep (eqb n 0) (walkOf (q .given) (q .transaction))) e
 
 -- what an accepted call leaves is within every limit
 pub record Within (q : Call) : Type 0 where
   pub ranges : length (outcomeOf q .transaction .controls .ranges) ≤ 256
   pub targets : length (outcomeOf q .transaction .controls .targets) ≤ 64
-  pub ids : outcomeOf q .transaction .ids ≤ length (q .ids)
-  pub data-entries : outcomeOf q .transaction .data-entries ≤ length (q .data-entries)
-  pub visits : outcomeOf q .visits ≤ length (q .journal)
+  pub ids : outcomeOf q .transaction .ids ≤ length (q .lists .ids)
+  pub data-entries : outcomeOf q .transaction .data-entries ≤ length (q .lists .data-entries)
+  pub visits : outcomeOf q .visits ≤ length (q .lists .journal)
   -- and no list grows or shrinks
-  pub ids-length : length (outcomeOf q .ids) ≡ length (q .ids)
-  pub data-length : length (outcomeOf q .data-entries) ≡ length (q .data-entries)
-  pub journal-length : length (outcomeOf q .journal) ≡ length (q .journal)
+  pub ids-length : length (outcomeOf q .lists .ids) ≡ length (q .lists .ids)
+  pub data-length : length (outcomeOf q .lists .data-entries) ≡ length (q .lists .data-entries)
+  pub journal-length : length (outcomeOf q .lists .journal) ≡ length (q .lists .journal)
 
 -- refusals 8 and 9 that do not apply
-not-eighth : (q : Call) → refused8 q ≡ false → length (q .transaction .controls .ranges) + total (ruleTotal q rangeCount) (q .rules) ≤ 256
+not-eighth : (q : Call) → refused8 q ≡ false → length (q .transaction .controls .ranges) + total (ruleTotal (q .given) rangeCount) (q .given .rules) ≤ 256
 unfolding refused8
-not-eighth q e = ltb-false 256 (length (q .transaction .controls .ranges) + total (ruleTotal q rangeCount) (q .rules)) e
+not-eighth q e = ltb-false 256 (length (q .transaction .controls .ranges) + total (ruleTotal (q .given) rangeCount) (q .given .rules)) e
 
-not-ninth : (q : Call) → refused9 q ≡ false → length (q .transaction .controls .targets) + total (ruleTotal q targetCount) (q .rules) ≤ 64
+not-ninth : (q : Call) → refused9 q ≡ false → length (q .transaction .controls .targets) + total (ruleTotal (q .given) targetCount) (q .given .rules) ≤ 64
 unfolding refused9
-not-ninth q e = ltb-false 64 (length (q .transaction .controls .targets) + total (ruleTotal q targetCount) (q .rules)) e
+not-ninth q e = ltb-false 64 (length (q .transaction .controls .targets) + total (ruleTotal (q .given) targetCount) (q .given .rules)) e
 
 -- the free entries, where refusal 7 does not apply
 pub record Free (q : Call) : Type 0 where
-  pub ids : q .transaction .ids + ruleCount q ≤ length (q .ids)
-  pub data-entries : q .transaction .data-entries + ruleCount q ≤ length (q .data-entries)
-  pub journal : ruleCount q ≤ length (q .journal)
+  pub ids : q .transaction .ids + ruleCount (q .given) ≤ length (q .lists .ids)
+  pub data-entries : q .transaction .data-entries + ruleCount (q .given) ≤ length (q .lists .data-entries)
+  pub journal : ruleCount (q .given) ≤ length (q .lists .journal)
 
 pub not-seventh : (q : Call) → refused7 q ≡ false → Free q
 unfolding refused7
 not-seventh q e =
-    let ids : Bool = ltb (length (q .ids)) (q .transaction .ids + ruleCount q) in
-    let entries : Bool = ltb (length (q .data-entries)) (q .transaction .data-entries + ruleCount q) in
-    let lists = or-false (ids || entries) (ltb (length (q .journal)) (ruleCount q)) e in
+    let ids : Bool = ltb (length (q .lists .ids)) (q .transaction .ids + ruleCount (q .given)) in
+    let entries : Bool = ltb (length (q .lists .data-entries)) (q .transaction .data-entries + ruleCount (q .given)) in
+    let lists = or-false (ids || entries) (ltb (length (q .lists .journal)) (ruleCount (q .given))) e in
     let both = or-false ids entries (lists .0) in
     record {
-      ids = ltb-false (length (q .ids)) (q .transaction .ids + ruleCount q) (both .0);
-      data-entries = ltb-false (length (q .data-entries)) (q .transaction .data-entries + ruleCount q) (both .1);
-      journal = ltb-false (length (q .journal)) (ruleCount q) (lists .1);
+      ids = ltb-false (length (q .lists .ids)) (q .transaction .ids + ruleCount (q .given)) (both .0);
+      data-entries = ltb-false (length (q .lists .data-entries)) (q .transaction .data-entries + ruleCount (q .given)) (both .1);
+      journal = ltb-false (length (q .lists .journal)) (ruleCount (q .given)) (lists .1);
     }
 
 -- what is written within a list leaves its length
@@ -364,7 +364,7 @@ over-length found new h = omega (arith, length-append new (drop (length new) fou
 free-end-length : {A : Type 0} (used : ℕ) (found new : List A) → used + length new ≤ length found → length (atFreeEnd used found new) ≡ length found
 free-end-length used found new h =
     let d : length (drop used found) ≡ length found - used = length-drop used found in
-    let t : length (take used found) ≡ used = length-take used found ∙ omega arith in
+    let used-is : length (take used found) ≡ used = length-take used found ∙ omega arith in
     omega (arith, length-append (take used found) (over (drop used found) new), over-length (drop used found) new (omega arith))
 
 pub length-journal : (l : List Visit) → length (journalOf l) ≡ length l
@@ -377,12 +377,12 @@ accepted-within q e =
     let p : Passed q = passed q e in
     let f : Free q = not-seventh q (p .seventh) in
     record {
-      ranges = rw (accepted-visits q e) (omega (arith, walk-count q (λ c. length (c .ranges)) rangeCount ranges-counted, not-eighth q (p .eighth)));
-      targets = rw (accepted-visits q e) (omega (arith, walk-count q (λ c. length (c .targets)) targetCount targets-counted, not-ninth q (p .ninth)));
-      ids = rw (accepted-visits q e) (omega (arith, ids-within q, f .ids));
-      data-entries = rw (accepted-visits q e) (omega (arith, data-within q, f .data-entries));
-      visits = rw (accepted-visits q e) (omega (arith, visits-within q, f .journal));
-      ids-length = rw (accepted-visits q e) (free-end-length (q .transaction .ids) (q .ids) (idsOf q (walkOf q)) (omega (arith, ids-within q, f .ids)));
-      data-length = rw (accepted-visits q e) (free-end-length (q .transaction .data-entries) (q .data-entries) (dataOf q (walkOf q)) (omega (arith, data-within q, f .data-entries)));
-      journal-length = rw (accepted-visits q e) (over-length (q .journal) (journalOf (walkOf q)) (omega (arith, length-journal (walkOf q), visits-within q, f .journal)));
+      ranges = rw (accepted-visits q e) (omega (arith, walk-count (q .given) (λ c. length (c .ranges)) rangeCount ranges-counted (q .transaction), not-eighth q (p .eighth)));
+      targets = rw (accepted-visits q e) (omega (arith, walk-count (q .given) (λ c. length (c .targets)) targetCount targets-counted (q .transaction), not-ninth q (p .ninth)));
+      ids = rw (accepted-visits q e) (omega (arith, ids-within (q .given) (q .transaction), f .ids));
+      data-entries = rw (accepted-visits q e) (omega (arith, data-within (q .given) (q .transaction), f .data-entries));
+      visits = rw (accepted-visits q e) (omega (arith, visits-within (q .given) (q .transaction), f .journal));
+      ids-length = rw (accepted-visits q e) (free-end-length (q .transaction .ids) (q .lists .ids) (idsOf (q .given) (walkOf (q .given) (q .transaction))) (omega (arith, ids-within (q .given) (q .transaction), f .ids)));
+      data-length = rw (accepted-visits q e) (free-end-length (q .transaction .data-entries) (q .lists .data-entries) (dataOf (q .given) (walkOf (q .given) (q .transaction))) (omega (arith, data-within (q .given) (q .transaction), f .data-entries)));
+      journal-length = rw (accepted-visits q e) (over-length (q .lists .journal) (journalOf (walkOf (q .given) (q .transaction))) (omega (arith, length-journal (walkOf (q .given) (q .transaction)), visits-within (q .given) (q .transaction), f .journal)));
     }

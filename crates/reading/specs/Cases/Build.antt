@@ -214,19 +214,21 @@ lentEntry = record { index = 9; verdict = 9 }
 -- each lent list has two entries more than there are rules, and one id and one data entry are in use
 abbrev pub callWith : Reading → RuleEngineMode → Controls → Bool → List Written → List Named → Call
 callWith reading mode held allowed ws ms = record {
-  reading = reading;
-  phase = 2;
-  mode = modeNumber mode;
-  status = 500;
-  rules = layRules 0 ws;
-  actions = layActs 0 (allActs ws);
-  markers = layMarkers (length (actsText (allActs ws))) ms;
-  text = actsText (allActs ws) ++ markersText ms;
-  outcomes = map (λ w. w .outcome) ws;
+  given = record {
+    reading = reading;
+    settings = record { phase = 2; mode = modeNumber mode; «default_status» = 500 };
+    rules = layRules 0 ws;
+    actions = layActs 0 (allActs ws);
+    markers = layMarkers (length (actsText (allActs ws))) ms;
+    text = actsText (allActs ws) ++ markersText ms;
+    outcomes = map (λ w. w .outcome) ws;
+  };
   transaction = record { controls = held; allowed = allowed; intervention = OptionIntervention.None; ids = 1; data-entries = 1 };
-  ids = replicate (length ws + 2) 9;
-  data-entries = replicate (length ws + 2) lentData;
-  journal = replicate (length ws + 2) lentEntry;
+  lists = record {
+    ids = replicate (length ws + 2) 9;
+    data-entries = replicate (length ws + 2) lentData;
+    journal = replicate (length ws + 2) lentEntry;
+  };
 }
 
 -- nothing held
@@ -294,7 +296,7 @@ nothing = record { visits = []; ids = []; data-entries = []; allowed = false; st
 -- many ranges and targets, ids that are removed and ids that are not, and directives that are supported or not
 pub record Row : Type 0 where
   pub name : String
-  pub given : Call
+  pub phase-call : Call
   pub answer : ℕ
   pub error-index : ℕ
   pub found : Found
@@ -310,15 +312,15 @@ pub record Row : Type 0 where
 -- a row by all that may differ, the settings being those at entry; a row of a call that is answered 0; one that says also what is removed and what is supported; one that adds
 -- targets; one that is answered 10; one that is refused
 abbrev pub rowOf : String → Call → ℕ → ℕ → Found → ℕ → ℕ → List ℕ → List ℕ → List Told → Row
-rowOf name given answer error-index found ranges targets gone kept told = record {
+rowOf name q answer error-index found ranges targets gone kept told = record {
   name = name;
-  given = given;
+  phase-call = q;
   answer = answer;
   error-index = error-index;
   found = found;
-  mode = given .transaction .controls .mode;
-  access = given .transaction .controls .access;
-  processor = given .transaction .controls .processor;
+  mode = q .transaction .controls .mode;
+  access = q .transaction .controls .access;
+  processor = q .transaction .controls .processor;
   ranges = ranges;
   targets = targets;
   gone = gone;
@@ -327,26 +329,26 @@ rowOf name given answer error-index found ranges targets gone kept told = record
 }
 
 abbrev pub row : String → Call → Found → Row
-row name given found = rowOf name given 0 0 found 0 0 [] [] []
+row name q found = rowOf name q 0 0 found 0 0 [] [] []
 
 abbrev pub removal : String → Call → Found → ℕ → List ℕ → List ℕ → List Told → Row
-removal name given found ranges gone kept told = rowOf name given 0 0 found ranges 0 gone kept told
+removal name q found ranges gone kept told = rowOf name q 0 0 found ranges 0 gone kept told
 
 abbrev pub targeting : String → Call → Found → ℕ → Row
-targeting name given found targets = rowOf name given 0 0 found 0 targets [] [] []
+targeting name q found targets = rowOf name q 0 0 found 0 targets [] [] []
 
 abbrev pub failing : String → Call → ℕ → Found → Row
-failing name given at found = rowOf name given 10 at found 0 0 [] [] []
+failing name q at found = rowOf name q 10 at found 0 0 [] [] []
 
 abbrev pub refused : String → Call → ℕ → Row
-refused name given number =
-    rowOf name given number 0 nothing (length (given .transaction .controls .ranges)) (length (given .transaction .controls .targets)) [] [] []
+refused name q number =
+    rowOf name q number 0 nothing (length (q .transaction .controls .ranges)) (length (q .transaction .controls .targets)) [] [] []
 
 -- a row after which other settings are held than at entry
 abbrev pub settling : AccessSetting → ProcessorSetting → ModeSetting → Row → Row
 settling access processor mode r = record {
   name = r .name;
-  given = r .given;
+  phase-call = r .phase-call;
   answer = r .answer;
   error-index = r .error-index;
   found = r .found;
@@ -426,12 +428,12 @@ allGone c gone (n ∷ ns) = eqBool (isRemoved (c .ranges) (OptionU64.Some n)) go
 -- the replay of the journal found gives the same
 abbrev pub holdsReplayed : Row → List JournalEntry → Bool
 holdsReplayed r journal =
-    same (replayedIds (r .given) journal) (r .found .ids)
-    && sameData (replayedData (r .given) journal) (r .found .data-entries)
-    && eqBool (r .given .transaction .allowed || replayedAllow (r .given) journal) (r .found .allowed)
-    && sameStop (replayedIntervention (r .given) journal) (r .found .stop)
-    && eqb (length (replayedControls (r .given) journal .ranges)) (r .ranges)
-    && eqb (length (replayedControls (r .given) journal .targets)) (r .targets)
+    same (replayedIds (r .phase-call .given) journal) (r .found .ids)
+    && sameData (replayedData (r .phase-call .given) journal) (r .found .data-entries)
+    && eqBool (r .phase-call .transaction .allowed || replayedAllow (r .phase-call .given) journal) (r .found .allowed)
+    && sameStop (replayedIntervention (r .phase-call .given) (r .phase-call .transaction) journal) (r .found .stop)
+    && eqb (length (replayedControls (r .phase-call .given) (r .phase-call .transaction) journal .ranges)) (r .ranges)
+    && eqb (length (replayedControls (r .phase-call .given) (r .phase-call .transaction) journal .targets)) (r .targets)
 
 -- the first entry of the two lists is in use and stays
 abbrev pub holdsAfter : Row → Outcome → Bool
@@ -439,16 +441,16 @@ holdsAfter r o =
     eqb (o .answer) (r .answer)
     && eqb (o .error) (r .error-index)
     && eqb (o .visits) (length (r .found .visits))
-    && eqb (length (o .journal)) (length (r .given .journal))
-    && sameVisits (o .journal) (r .found .visits)
-    && eqb (o .transaction .ids) (r .given .transaction .ids + length (r .found .ids))
-    && eqb (length (o .ids)) (length (r .given .ids))
-    && sameIds (take 1 (o .ids)) []
-    && sameIds (past 1 (o .ids)) (r .found .ids)
-    && eqb (o .transaction .data-entries) (r .given .transaction .data-entries + length (r .found .data-entries))
-    && eqb (length (o .data-entries)) (length (r .given .data-entries))
-    && sameData (take 1 (o .data-entries)) []
-    && sameData (past 1 (o .data-entries)) (r .found .data-entries)
+    && eqb (length (o .lists .journal)) (length (r .phase-call .lists .journal))
+    && sameVisits (o .lists .journal) (r .found .visits)
+    && eqb (o .transaction .ids) (r .phase-call .transaction .ids + length (r .found .ids))
+    && eqb (length (o .lists .ids)) (length (r .phase-call .lists .ids))
+    && sameIds (take 1 (o .lists .ids)) []
+    && sameIds (past 1 (o .lists .ids)) (r .found .ids)
+    && eqb (o .transaction .data-entries) (r .phase-call .transaction .data-entries + length (r .found .data-entries))
+    && eqb (length (o .lists .data-entries)) (length (r .phase-call .lists .data-entries))
+    && sameData (take 1 (o .lists .data-entries)) []
+    && sameData (past 1 (o .lists .data-entries)) (r .found .data-entries)
     && eqBool (o .transaction .allowed) (r .found .allowed)
     && sameStop (o .transaction .intervention) (r .found .stop)
     && eqb (modeSettingNumber (o .transaction .controls .mode)) (modeSettingNumber (r .mode))
@@ -462,7 +464,7 @@ holdsAfter r o =
     && holdsReplayed r (foundJournal o)
 
 unfoldable pub holds : Row → Bool
-holds r = holdsAfter r (outcomeOf (r .given))
+holds r = holdsAfter r (outcomeOf (r .phase-call))
 
 unfoldable pub allHold : List Row → Bool
 allHold [] = true

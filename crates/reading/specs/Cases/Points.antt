@@ -12,6 +12,7 @@ use Rattle.reading.specs.declared.ModeSetting.{ModeSetting}
 use Rattle.reading.specs.declared.AccessSetting.{AccessSetting}
 use Rattle.reading.specs.declared.ProcessorSetting.{ProcessorSetting}
 use Rattle.reading.specs.declared.RuleIdRange.{RuleIdRange}
+use Rattle.reading.specs.declared.CallSettings.{CallSettings}
 use Rattle.reading.specs.declared.Rule.{Rule}
 use Rattle.reading.specs.declared.Action.{Action}
 use Rattle.reading.specs.declared.Marker.{Marker}
@@ -24,7 +25,7 @@ use Rattle.reading.specs.Controls.{Controls, noControls, isRemoved, beyo
 use Rattle.reading.specs.Actions.{actionsOf, lastOf, lastDisruptive, lastFlow, metadataOf, directiveIn}
 use Rattle.reading.specs.Markers.{markerPosition}
 use Rattle.reading.specs.Reading.{rust, manual}
-use Rattle.reading.specs.Call.{Call, ruleAt, isLink, idAt, outcomeAt, actionsAt}
+use Rattle.reading.specs.Call.{Given, Call, Lists, ruleAt, isLink, idAt, outcomeAt, actionsAt}
 use Rattle.reading.specs.Refusals.{refused1, refused2, refused3, refused4, refused5, refused6, refused7, refused8, refused9, ruleTotal, refusalOf}
 use Rattle.reading.specs.Units.{ruleControls, unitFlow, unitDisruptive, unitIntervention}
 use Rattle.reading.specs.Walk.{verdictAt, afterChain, visitAt, walk, walkOf}
@@ -52,71 +53,74 @@ callManual ws ms = callWith manual RuleEngineMode.On noControls false ws ms
 
 -- A CALL WITH OTHER RECORDS OR LISTS
 
+abbrev withGiven : Given → Call → Call
+withGiven g q = record { given = g; transaction = q .transaction; lists = q .lists }
+
+abbrev withLent : Lists → Call → Call
+withLent lent q = record { given = q .given; transaction = q .transaction; lists = lent }
+
+-- other numbers, records and texts
+abbrev withSettings : CallSettings → Call → Call
+withSettings settings q = withGiven (record {
+  reading = q .given .reading;
+  settings = settings;
+  rules = q .given .rules;
+  actions = q .given .actions;
+  markers = q .given .markers;
+  text = q .given .text;
+  outcomes = q .given .outcomes;
+}) q
+
 abbrev withRecords : List Rule → List Action → List Marker → List ℕ → List ℕ → Call → Call
-withRecords rules actions markers text outcomes q = record {
-  reading = q .reading;
-  phase = q .phase;
-  mode = q .mode;
-  status = q .status;
+withRecords rules actions markers text outcomes q = withGiven (record {
+  reading = q .given .reading;
+  settings = q .given .settings;
   rules = rules;
   actions = actions;
   markers = markers;
   text = text;
   outcomes = outcomes;
-  transaction = q .transaction;
-  ids = q .ids;
-  data-entries = q .data-entries;
-  journal = q .journal;
-}
-
-abbrev withLists : ℕ → ℕ → List ℕ → List DataEntry → List JournalEntry → Call → Call
-withLists phase mode ids entries journal q = record {
-  reading = q .reading;
-  phase = phase;
-  mode = mode;
-  status = q .status;
-  rules = q .rules;
-  actions = q .actions;
-  markers = q .markers;
-  text = q .text;
-  outcomes = q .outcomes;
-  transaction = q .transaction;
-  ids = ids;
-  data-entries = entries;
-  journal = journal;
-}
+}) q
 
 -- the same call with other outcomes, with one action more that no rule points to, and with other rules
 abbrev withOutcomes : List ℕ → Call → Call
-withOutcomes outcomes q = withRecords (q .rules) (q .actions) (q .markers) (q .text) outcomes q
+withOutcomes outcomes q = withRecords (q .given .rules) (q .given .actions) (q .given .markers) (q .given .text) outcomes q
 
 abbrev withAction : Action → Call → Call
-withAction a q = withRecords (q .rules) (q .actions ++ (a ∷ [])) (q .markers) (q .text) (q .outcomes) q
+withAction a q = withRecords (q .given .rules) (q .given .actions ++ (a ∷ [])) (q .given .markers) (q .given .text) (q .given .outcomes) q
 
 abbrev withRules : List Rule → Call → Call
-withRules rules q = withRecords rules (q .actions) (q .markers) (q .text) (map (λ r. 2) rules) q
+withRules rules q = withRecords rules (q .given .actions) (q .given .markers) (q .given .text) (map (λ r. 2) rules) q
 
 abbrev withText : List ℕ → Call → Call
-withText text q = withRecords (q .rules) (q .actions) (q .markers) text (q .outcomes) q
+withText text q = withRecords (q .given .rules) (q .given .actions) (q .given .markers) text (q .given .outcomes) q
 
 abbrev withMarker : ℕ → ℕ → ℕ → Call → Call
 withMarker start len position q =
-    withRecords (q .rules) (q .actions) (q .markers ++ (record { name = record { start = start; len = len }; position = position } ∷ [])) (q .text) (q .outcomes) q
+    withRecords (q .given .rules) (q .given .actions)
+    (q .given .markers ++ (record { name = record { start = start; len = len }; position = position } ∷ [])) (q .given .text) (q .given .outcomes) q
 
+-- with other lists
 abbrev withJournal : List JournalEntry → Call → Call
-withJournal journal q = withLists (q .phase) (q .mode) (q .ids) (q .data-entries) journal q
+withJournal journal q = withLent (record { ids = q .lists .ids; data-entries = q .lists .data-entries; journal = journal }) q
 
 abbrev withData : List DataEntry → Call → Call
-withData entries q = withLists (q .phase) (q .mode) (q .ids) entries (q .journal) q
+withData entries q = withLent (record { ids = q .lists .ids; data-entries = entries; journal = q .lists .journal }) q
 
 abbrev withIds : List ℕ → Call → Call
-withIds ids q = withLists (q .phase) (q .mode) ids (q .data-entries) (q .journal) q
+withIds ids q = withLent (record { ids = ids; data-entries = q .lists .data-entries; journal = q .lists .journal }) q
 
+-- lists of so many entries
+abbrev withRoom : ℕ → ℕ → ℕ → Call → Call
+withRoom ids entries journal q =
+    withLent (record { ids = replicate ids 9; data-entries = replicate entries lentData; journal = replicate journal lentEntry }) q
+
+-- in another phase, with a rule set of another mode
 abbrev inPhase : ℕ → Call → Call
-inPhase phase q = withLists phase (q .mode) (q .ids) (q .data-entries) (q .journal) q
+inPhase phase q = withSettings (record { phase = phase; mode = q .given .settings .mode; «default_status» = q .given .settings .«default_status» }) q
 
 abbrev withMode : ℕ → Call → Call
-withMode mode q = withLists (q .phase) mode (q .ids) (q .data-entries) (q .journal) q
+withMode mode q = withSettings (record { phase = q .given .settings .phase; mode = mode; «default_status» = q .given .settings .«default_status» }) q
 
 abbrev action : ℕ → ℕ → ℕ → ℕ → ℕ → ℕ → Action
 action kind number start len start′ len′ =
@@ -132,7 +136,7 @@ times n a = replicate n a
 
 -- the call with its first rule's one target action so many times over, and then its other actions; all point at the one text
 abbrev repeating : ℕ → List Rule → List Action → Call → Call
-repeating n rules others q = withRecords (sharing 0 n ∷ rules) (times n (action 19 0 0 20 20 3) ++ others) [] (q .text) (q .outcomes) q
+repeating n rules others q = withRecords (sharing 0 n ∷ rules) (times n (action 19 0 0 20 20 3) ++ others) [] (q .given .text) (q .given .outcomes) q
 
 abbrev target : Written
 target = noId (ctl "ruleRemoveTargetById" "1;A" ∷ [])
@@ -306,7 +310,7 @@ points =
     ∷ refused "D13f" (withRecords [] [] (times 257 (record { name = record { start = 0; len = 0 }; position = 0 })) [] [] (call [] [])) 2
     ∷ refused "D13g" (withText (times 65537 65) (call [] [])) 2
     -- each of these limits itself is taken; the mode is Off, so that nothing is done
-    ∷ row "D13h" (withLists 2 2 (times 513 9) (times 513 lentData) (times 512 lentEntry) (withRules (times 512 (sharing 0 0)) (call [] []))) nothing
+    ∷ row "D13h" (withMode 2 (withRoom 513 513 512 (withRules (times 512 (sharing 0 0)) (call [] [])))) nothing
     ∷ row "D13i" (withRecords [] (times 4096 (action 0 0 0 0 0 0)) [] [] [] (call [] [])) nothing
     ∷ row "D13j" (withRecords [] [] (times 256 (record { name = record { start = 0; len = 0 }; position = 0 })) [] [] (call [] [])) nothing
     ∷ row "D13k" (withText (times 65536 127) (call [] [])) nothing
@@ -357,7 +361,7 @@ points =
     ∷ refused "D19a" (withData (lentData ∷ []) (call (withOutcome 1 (rule 10 []) ∷ []) [])) 7
     ∷ refused "D19b" (withJournal [] (call (rule 10 [] ∷ []) [])) 7
     -- 8: counted rule by rule, a shared action for each
-    ∷ refused "D20a" (withLists 2 0 (times 5 9) (times 5 lentData) (times 5 lentEntry) (withRules (sharing 0 1 ∷ sharing 0 1 ∷ []) (callWith rust RuleEngineMode.On (holding (times 255 (range 1 1))) false (noId (ctl "ruleRemoveById" "7" ∷ []) ∷ []) []))) 8
+    ∷ refused "D20a" (withRoom 5 5 5 (withRules (sharing 0 1 ∷ sharing 0 1 ∷ []) (callWith rust RuleEngineMode.On (holding (times 255 (range 1 1))) false (noId (ctl "ruleRemoveById" "7" ∷ []) ∷ []) []))) 8
     -- an action that is part of no rule does not count
     ∷ removal "D20b" (withRules [] (callWith rust RuleEngineMode.On (holding (times 256 (range 1 1))) false (noId (ctl "ruleRemoveById" "7" ∷ []) ∷ []) [])) nothing 256 [] [] []
     -- rules that are missed count
