@@ -1,6 +1,7 @@
 // The intervention that a unit gives (engine/intervention.rs).
 use crate::decide::Ending;
 use actions::execute;
+use reading::CallSettings;
 use reading::DisruptiveOutcome;
 use reading::Intervention;
 use reading::OptionIntervention;
@@ -12,9 +13,9 @@ use unit::members;
 ghost use mathlib.Core.Path.{_≡_};
 ghost use mathlib.Core.List.{List};
 ghost use Prim.Native.Nat.{ℕ};
-ghost use Rattle.reading.specs.Records.{journalList, matchedIn};
+ghost use Rattle.reading.specs.Records.{journalList, matchedIn, givenOf};
+ghost use Rattle.reading.specs.declared.Marker.{Marker};
 ghost use Rattle.reading.specs.Units.{drops, addressOf, ifDifferent, unitIntervention};
-ghost use Rattle.unit.specs.MemberList.{Rest, callWith};
 ghost use Rattle.intervention.specs.BuildIntervention.{statusBy, interventionAtEnd};
 
 // The status of a disruptive action that stops, given the caller's default. A status action does nothing.
@@ -83,13 +84,13 @@ fn unit_intervention(
     members: &[u64],
     rules: &[u64],
     actions: &[u64],
-    phase: u64,
-    status: u64,
+    call: CallSettings,
 ) -> Intervention
-    ensures { λ r. ⌜ ((markers text outcomes : List ℕ) (rest : Rest) → rest .status ≡ status
-        → r ≡ unitIntervention (callWith phase (now (rules .entry)) (now (actions .entry)) markers text outcomes rest)
+    ensures { λ r. ⌜ ((markers : List Marker) (text outcomes : List ℕ)
+        → r ≡ unitIntervention (givenOf call (now (rules .entry)) (now (actions .entry)) markers text outcomes)
         (matchedIn (journalList (now (members .entry))))) ⌝ }
 {
+    let phase = call.phase;
     let starter = members::starter_of(members);
     let closer = members::closer_of(members);
     // the positions of the control actions are not asked for here
@@ -108,7 +109,7 @@ fn unit_intervention(
     let url = address_of(phase, disruptive);
     let other = if_different(closing, id);
     Intervention {
-        status: status_of(disruptive, status),
+        status: status_of(disruptive, call.default_status),
         url,
         log,
         closing,
@@ -125,11 +126,10 @@ pub fn build_intervention(
     members: &[u64],
     rules: &[u64],
     actions: &[u64],
-    phase: u64,
-    status: u64,
+    call: CallSettings,
 ) -> OptionIntervention
-    ensures { λ r. ⌜ ((markers text outcomes : List ℕ) (rest : Rest) → rest .status ≡ status
-        → r ≡ interventionAtEnd ending (unitIntervention (callWith phase (now (rules .entry)) (now (actions .entry)) markers text outcomes rest)
+    ensures { λ r. ⌜ ((markers : List Marker) (text outcomes : List ℕ)
+        → r ≡ interventionAtEnd ending (unitIntervention (givenOf call (now (rules .entry)) (now (actions .entry)) markers text outcomes)
         (matchedIn (journalList (now (members .entry)))))) ⌝ }
 {
     match ending {
@@ -137,7 +137,7 @@ pub fn build_intervention(
         Ending::Allows => OptionIntervention::None,
         Ending::Errs => OptionIntervention::None,
         Ending::Stops => {
-            OptionIntervention::Some(unit_intervention(members, rules, actions, phase, status))
+            OptionIntervention::Some(unit_intervention(members, rules, actions, call))
         }
     }
 }

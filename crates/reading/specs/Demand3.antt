@@ -12,6 +12,7 @@ use Rattle.reading.specs.Call.{Given, Call, Transaction, ruleCount, mode
 use Rattle.reading.specs.Units.{unitDisruptive, unitIntervention, isStopping}
 use Rattle.reading.specs.Walk.{walkOf, journalOf, isStopped}
 use Rattle.reading.specs.Replay.{lastClosed, replayedIds, replayedData, replayedControls, replayedAllow, replayedIntervention}
+use Rattle.reading.specs.Report.{reportOf}
 use Rattle.reading.specs.Outcome.{Outcome, atFreeEnd}
 
 -- entries whose indexes are at least `from`, below `n`, and each greater than the one before it
@@ -27,6 +28,8 @@ pub record Accounted (q : Call) (o : Outcome) : Type 0 where
   -- "its journal holds exactly the visits of demand 2's walk, each as rule index and verdict, in order"
   pub visits : o .visits ≡ length (walkOf (q .given) (q .transaction))
   pub journal : foundJournal o ≡ journalOf (walkOf (q .given) (q .transaction))
+  -- what is told besides is told by that journal
+  pub report : o .report ≡ reportOf (foundJournal o)
   -- "the indexes strictly rising"
   pub rising : Rises (ruleCount (q .given)) 0 (foundJournal o)
   -- "Ids, data, controls and allow are then those at entry plus what 01's closed units of that whole journal give, in order."

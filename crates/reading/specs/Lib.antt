@@ -13,6 +13,7 @@ pub mod Refusals
 pub mod Units
 pub mod Walk
 pub mod Replay
+pub mod Report
 pub mod Outcome
 pub mod Demand3
 pub mod Manual

@@ -6,10 +6,12 @@ use lib.ListN.{length, take, drop}
 use Rattle.reading.specs.declared.DataEntry.{DataEntry}
 use Rattle.reading.specs.declared.JournalEntry.{JournalEntry}
 use Rattle.reading.specs.declared.OptionIntervention.{OptionIntervention}
+use Rattle.reading.specs.declared.Report.{Report}
 use Rattle.reading.specs.Lists.{keep, over}
 use Rattle.reading.specs.Call.{Given, Call, Transaction, Lists}
 use Rattle.reading.specs.Refusals.{refusalOf, isAccepted}
 use Rattle.reading.specs.Walk.{Visit, walkOf, journalOf, idsOf, dataOf, controlsAfter, allowedBy, interventionBy, answerBy, errorIndexBy}
+use Rattle.reading.specs.Report.{reportBy}
 
 -- the visits of a call: a refused one has none, so that whatever follows from them is as found
 unfoldable pub visitsOf : Call → List Visit
@@ -28,8 +30,9 @@ pub record Outcome : Type 0 where
   -- 0, 10, or the number of a refusal, and the index of the rule that had the error
   pub answer : ℕ
   pub error : ℕ
-  -- how many entries the journal holds
+  -- how many entries the journal holds, and what is told besides
   pub visits : ℕ
+  pub report : Report
   pub transaction : Transaction
   pub lists : Lists
 
@@ -58,6 +61,7 @@ outcomeOf q =
       answer = cond (isAccepted q) (answerBy vs) (refusalOf q);
       error = errorIndexBy vs;
       visits = length vs;
+      report = reportBy vs;
       transaction = transactionAfter (q .given) (q .transaction) vs;
       lists = listsAfter (q .given) (q .transaction) (q .lists) vs;
     }

@@ -3,12 +3,15 @@ use Prim.Native.Nat.{ℕ, zero, suc, _+_, _*_, _/_}
 use mathlib.Core.List.{List, [], _∷_, _++_}
 use lib.ListN.{length, getD}
 use lib.Dec.{eqb}
+use Rattle.reading.specs.declared.CallSettings.{CallSettings}
 use Rattle.reading.specs.declared.Rule.{Rule}
 use Rattle.reading.specs.declared.Action.{Action}
 use Rattle.reading.specs.declared.Marker.{Marker}
 use Rattle.reading.specs.declared.DataEntry.{DataEntry}
 use Rattle.reading.specs.declared.JournalEntry.{JournalEntry}
 use Rattle.reading.specs.Lists.{keep}
+use Rattle.reading.specs.Reading.{rust}
+use Rattle.reading.specs.Call.{Given, Lists}
 
 module _ {A : Type 0} where
   -- the values of a function at 0, 1, 2 and on, so many
@@ -88,3 +91,29 @@ journalWords (e ∷ es) = e .index ∷ e .verdict ∷ journalWords es
 abbrev pub matchedIn : List JournalEntry → List ℕ
 matchedIn [] = []
 matchedIn (e ∷ es) = keep (eqb (e .verdict) 1) (e .index ∷ []) ++ matchedIn es
+
+-- A CALL IN NUMBERS
+
+-- what a call is given, in the Rust's reading: its settings, rules and actions as numbers, markers, text and outcomes
+abbrev pub givenOf : CallSettings → List ℕ → List ℕ → List Marker → List ℕ → List ℕ → Given
+givenOf settings rules actions markers text outcomes = record {
+  reading = rust;
+  settings = settings;
+  rules = ruleList rules;
+  actions = actionList actions;
+  markers = markers;
+  text = text;
+  outcomes = outcomes;
+}
+
+-- the lists that are written, as numbers
+pub record LentLists : Type 0 where
+  pub ids : List ℕ
+  pub entries : List ℕ
+  pub journal : List ℕ
+
+abbrev pub lent : List ℕ → List ℕ → List ℕ → LentLists
+lent ids entries journal = record { ids = ids; entries = entries; journal = journal }
+
+abbrev pub listsOf : LentLists → Lists
+listsOf l = record { ids = l .ids; data-entries = dataList (l .entries); journal = journalList (l .journal) }

@@ -146,6 +146,15 @@ pub struct JournalEntry {
     pub verdict: u64,
 }
 
+// What a phase tells besides: how many of its visits found each verdict.
+#[repr(C)]
+pub struct Report {
+    pub missed: u64,
+    pub matched: u64,
+    pub removed: u64,
+    pub errors: u64,
+}
+
 // What a visit finds of its rule.
 pub enum Verdict {
     Missed,

@@ -3,6 +3,7 @@ use crate::action_checks;
 use crate::marker_checks;
 use crate::rule_checks;
 use control::fields;
+use reading::CallSettings;
 use reading::limits;
 use reading::widths;
 use text::high_bytes;
@@ -13,10 +14,10 @@ ghost use lib.ListN.{length};
 ghost use lib.Dec.{ltb};
 ghost use Rattle.reading.specs.Lists.{any};
 ghost use Rattle.reading.specs.Limits.{mostRanges, mostTargets};
-ghost use Rattle.reading.specs.Records.{ruleList, actionList, markerList};
+ghost use Rattle.reading.specs.Records.{ruleList, actionList, markerList, givenOf};
 ghost use Rattle.reading.specs.Refusals.{badRule, badAction, badMarker, badOutcome};
-ghost use Rattle.reading.specs.Call.{Call};
-ghost use Rattle.refusals.specs.FirstRefusal.{Counted, Lent, firstOfFour, firstOfSeven};
+ghost use Rattle.reading.specs.Call.{Call, Transaction, Lists};
+ghost use Rattle.refusals.specs.FirstRefusal.{Sized, Counted, firstOfFour, firstOfSeven};
 
 // How many records, text bytes and outcomes a call lends.
 pub struct Counts {
@@ -39,16 +40,16 @@ pub struct Sizes {
 }
 
 // Refusal 1: a phase or a mode that there is not.
-fn is_unknown(phase: u64, mode: u64) -> bool
-    ensures { λ r. ⌜ r ≡ (ltb phase 1 || ltb 5 phase || ltb 2 mode) ⌝ }
+fn is_unknown(call: CallSettings) -> bool
+    ensures { λ r. ⌜ r ≡ (ltb (call .phase) 1 || ltb 5 (call .phase) || ltb 2 (call .mode)) ⌝ }
 {
-    if phase < 1 {
+    if call.phase < 1 {
         return true;
     }
-    if 5 < phase {
+    if 5 < call.phase {
         return true;
     }
-    2 < mode
+    2 < call.mode
 }
 
 // Refusal 2: more rules, actions, markers or text bytes than a call may have.
@@ -83,10 +84,10 @@ fn is_miscounted(sizes: Sizes) -> bool
 
 // The number of the first refusal of 1 to 4 that applies, else 0. These look at numbers alone and at no record, so the answer is
 // the same whatever the lists hold.
-pub fn early_refusal(phase: u64, mode: u64, counts: Counts, sizes: Sizes) -> u64
-    ensures { λ r. ⌜ ((q : Call) → Counted q phase mode counts sizes → r ≡ firstOfFour q) ⌝ }
+pub fn early_refusal(call: CallSettings, counts: Counts, sizes: Sizes) -> u64
+    ensures { λ r. ⌜ ((q : Call) → Counted q call counts sizes → r ≡ firstOfFour q) ⌝ }
 {
-    if is_unknown(phase, mode) {
+    if is_unknown(call) {
         return 1;
     }
     if is_too_large(counts) {
@@ -153,8 +154,7 @@ fn has_no_room(sizes: Sizes, rules: usize) -> bool
 
 // The number of the first refusal of 1 to 7 that applies, else 0.
 pub fn first_refusal(
-    phase: u64,
-    mode: u64,
+    call: CallSettings,
     rules: &[u64],
     actions: &[u64],
     markers: &[u64],
@@ -162,9 +162,12 @@ pub fn first_refusal(
     outcomes: &[u8],
     sizes: Sizes,
 ) -> u64
-    ensures { λ r. ⌜ ((q : Call) → Lent q phase mode (now (rules .entry)) (now (actions .entry)) (now (markers .entry))
-        (now (text .entry)) (now (outcomes .entry)) sizes
-        → r ≡ firstOfSeven q) ⌝ }
+    ensures { λ r. ⌜ ((t : Transaction) (lists : Lists) → Sized t lists sizes
+        → r ≡ firstOfSeven (record {
+        given = givenOf call (now (rules .entry)) (now (actions .entry)) (markerList (now (markers .entry))) (now (text .entry)) (now (outcomes .entry));
+        transaction = t;
+        lists = lists;
+        })) ⌝ }
 {
     let n = rules.len() / widths::RULE;
     let bytes = text.len();
@@ -175,7 +178,7 @@ pub fn first_refusal(
         bytes,
         outcomes: outcomes.len(),
     };
-    let early = early_refusal(phase, mode, counts, sizes);
+    let early = early_refusal(call, counts, sizes);
     if early != 0 {
         return early;
     }

@@ -25,6 +25,8 @@ use Rattle.lists.proofs.Tests.{or-false-is}
 use Rattle.theorems.specs.Replayed.{Replayed, walk-replayed}
 use Rattle.theorems.specs.Rising.{indexes-rise}
 use Rattle.theorems.specs.WithinLimits.{accepted-visits, length-journal}
+use Rattle.reading.specs.Report.{noReport, reportBy}
+use Rattle.theorems.specs.Reported.{report-told}
 use Rattle.theorems.specs.Answers.{ErrorFound, ten-only-after-error, zero-or-ten}
 
 take-front : {A : Type 0} (xs ys : List A) → take (length xs) (xs ++ ys) ≡ xs
@@ -128,6 +130,7 @@ demand3 q answered unallowed unstopped =
     record {
       visits = ap length vs;
       journal = found;
+      report = rw found (ap reportBy vs ∙ report-told (walkOf (q .given) (q .transaction)));
       rising = rw found (indexes-rise (q .given) (q .transaction));
       ids = rw (found, vs, ← r .units);
       ids-used = rw (found, vs, ← r .units);
@@ -197,6 +200,7 @@ cause-stops q t journal i s =
 -- everything that was lent is found as it was, and the journal counts no entry
 pub record AsLent (q : Call) (o : Outcome) : Type 0 where
   pub visits : o .visits ≡ 0
+  pub report : o .report ≡ noReport
   pub transaction : o .transaction ≡ q .transaction
   pub lists : o .lists ≡ q .lists
 
@@ -232,6 +236,7 @@ unfolding outcomeOf
 no-visits q e =
     record {
       visits = ap length e;
+      report = ap reportBy e;
       transaction = ap (transactionAfter (q .given) (q .transaction)) e ∙ transaction-kept (q .given) (q .transaction);
       lists = ap (listsAfter (q .given) (q .transaction) (q .lists)) e ∙ lists-kept (q .given) (q .transaction) (q .lists);
     }

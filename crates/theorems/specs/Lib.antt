@@ -2,6 +2,7 @@ pub mod Replayed
 pub mod Rising
 pub mod WithinLimits
 pub mod Answers
+pub mod Reported
 pub mod Demands
 pub mod Readings
 pub mod FreeOutcomes

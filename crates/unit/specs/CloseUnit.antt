@@ -11,7 +11,7 @@ use Rattle.reading.specs.declared.DataEntry.{DataEntry}
 use Rattle.reading.specs.Lists.{keep, over}
 use Rattle.reading.specs.Records.{dataWords}
 use Rattle.reading.specs.Numbers.{presentNumber, numberOrZero}
-use Rattle.reading.specs.Call.{Call, ruleCount, noRule, recordId}
+use Rattle.reading.specs.Call.{Given, ruleCount, noRule, recordId}
 use Rattle.reading.specs.Units.{ownOr, unitIds, unitData, unitFlow, unitDisruptive}
 use Rattle.reading.specs.Walk.{afterFlow}
 use Rattle.unit.specs.declared.close.UnitOutcome.{UnitOutcome}
@@ -41,10 +41,10 @@ pub record Listed (all : List DataEntry) (before : List ℕ) (count : ℕ) (afte
 
 -- Of a closed unit; `past` is the index after its closing rule. Ids and data entries are written from the start of the lent
 -- parts, as many as fit; an accepted call has room for all.
-pub record Wrote (q : Call) (unit : List ℕ) (past : ℕ) (ids entries : List ℕ) (r : UnitOutcome) (ids′ entries′ : List ℕ) : Type 0 where
-  pub id-count : r .ids ≡ length (take (length ids) (unitIds q unit))
-  pub ids-are : ids′ ≡ over ids (take (length ids) (unitIds q unit))
-  pub entry-count : r .entries ≡ length (take (length entries / 4) (unitData q unit))
-  pub entries-are : entries′ ≡ over entries (dataWords (take (length entries / 4) (unitData q unit)))
-  pub next-is : r .next ≡ min (afterFlow q past (unitFlow q unit)) (ruleCount q)
-  pub disruptive-is : r .disruptive ≡ unitDisruptive q unit
+pub record Wrote (g : Given) (unit : List ℕ) (past : ℕ) (ids entries : List ℕ) (r : UnitOutcome) (ids′ entries′ : List ℕ) : Type 0 where
+  pub id-count : r .ids ≡ length (take (length ids) (unitIds g unit))
+  pub ids-are : ids′ ≡ over ids (take (length ids) (unitIds g unit))
+  pub entry-count : r .entries ≡ length (take (length entries / 4) (unitData g unit))
+  pub entries-are : entries′ ≡ over entries (dataWords (take (length entries / 4) (unitData g unit)))
+  pub next-is : r .next ≡ min (afterFlow g past (unitFlow g unit)) (ruleCount g)
+  pub disruptive-is : r .disruptive ≡ unitDisruptive g unit

@@ -1,3 +1,2 @@
-pub mod MemberList
 pub mod VisitRule
 pub mod CloseUnit

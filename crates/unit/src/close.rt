@@ -3,6 +3,7 @@
 use crate::flow;
 use crate::members;
 use actions::execute;
+use reading::CallSettings;
 use reading::DataEntry;
 use reading::DisruptiveOutcome;
 use reading::OptionU64;
@@ -15,9 +16,8 @@ ghost use lib.Dec.{eqb};
 ghost use lib.ListN.{length, take};
 ghost use Rattle.reading.specs.Lists.{keep, over, gather};
 ghost use Rattle.reading.specs.Numbers.{listOf};
-ghost use Rattle.reading.specs.Records.{ruleList, journalList, matchedIn};
+ghost use Rattle.reading.specs.Records.{ruleList, markerList, journalList, matchedIn, givenOf};
 ghost use Rattle.reading.specs.Units.{ownOr};
-ghost use Rattle.unit.specs.MemberList.{Rest, callWith};
 ghost use Rattle.unit.specs.CloseUnit.{entryWith, memberEntry, Put, Listed, Wrote};
 
 // How many ids and data entries were written, the index that the walk goes on with, and the starter's last disruptive action.
@@ -123,7 +123,7 @@ fn put_entries(
 // Closes a unit. `past` is the index after its closing rule.
 pub fn close_unit(
     past: usize,
-    phase: u64,
+    call: CallSettings,
     members: &[u64],
     rules: &[u64],
     actions: &[u64],
@@ -133,9 +133,10 @@ pub fn close_unit(
     ids: &mut [u64],
     entries: &mut [u64],
 ) -> UnitOutcome
-    ensures { λ r. ⌜ ((rest : Rest) → Wrote (callWith phase (now (rules .entry)) (now (actions .entry)) (now (markers .entry)) (now (text .entry)) (now (outcomes .entry)) rest)
-        (matchedIn (journalList (now (members .entry)))) past (now (ids .entry)) (now (entries .entry)) r (now (ids .exit)) (now (entries .exit))) ⌝ }
+    ensures { λ r. ⌜ Wrote (givenOf call (now (rules .entry)) (now (actions .entry)) (markerList (now (markers .entry))) (now (text .entry)) (now (outcomes .entry)))
+        (matchedIn (journalList (now (members .entry)))) past (now (ids .entry)) (now (entries .entry)) r (now (ids .exit)) (now (entries .exit)) ⌝ }
 {
+    let phase = call.phase;
     let starter = rules::rule_at(rules, members::starter_of(members) as usize);
     let id = rules::rule_id(starter);
     let listed = put_id(id, ids);

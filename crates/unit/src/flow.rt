@@ -8,9 +8,10 @@ ghost use mathlib.Core.Path.{_≡_};
 ghost use mathlib.Core.List.{List};
 ghost use Prim.Native.Nat.{ℕ, _+_, min};
 ghost use Rattle.reading.specs.Reading.{rust};
-ghost use Rattle.reading.specs.Call.{Call, ruleCount};
+ghost use Rattle.reading.specs.declared.CallSettings.{CallSettings};
+ghost use Rattle.reading.specs.Records.{markerList, givenOf};
+ghost use Rattle.reading.specs.Call.{Given, ruleCount};
 ghost use Rattle.reading.specs.Walk.{jumpFrom, afterFlow};
-ghost use Rattle.unit.specs.MemberList.{Rest, callWith};
 
 // A skip of n indexes from `past` on, which goes no further than after the last rule.
 fn skip_to(past: usize, n: u64, rules: usize) -> usize
@@ -27,7 +28,7 @@ fn skip_to(past: usize, n: u64, rules: usize) -> usize
 
 // A marker is jumped to if its position is greater than `past`; else the rest is passed.
 fn jump_to(past: usize, found: OptionU64, rules: usize) -> usize
-    ensures { λ r. ⌜ ((q : Call) → q .reading ≡ rust → ruleCount q ≡ rules → r ≡ min (jumpFrom q past found) rules) ⌝ }
+    ensures { λ r. ⌜ ((g : Given) → g .reading ≡ rust → ruleCount g ≡ rules → r ≡ min (jumpFrom g past found) rules) ⌝ }
 {
     let OptionU64::Some(position) = found else {
         return rules;
@@ -50,9 +51,9 @@ pub fn after_flow(
     markers: &[u64],
     text: &[u8],
 ) -> usize
-    ensures { λ r. ⌜ ((phase : ℕ) (outcomes : List ℕ) (rest : Rest)
-        → let q = callWith phase (now (rules .entry)) (now (actions .entry)) (now (markers .entry)) (now (text .entry)) outcomes rest in
-        r ≡ min (afterFlow q past flow) (ruleCount q)) ⌝ }
+    ensures { λ r. ⌜ ((call : CallSettings) (outcomes : List ℕ)
+        → let g = givenOf call (now (rules .entry)) (now (actions .entry)) (markerList (now (markers .entry))) (now (text .entry)) outcomes in
+        r ≡ min (afterFlow g past flow) (ruleCount g)) ⌝ }
 {
     let n = rules.len() / widths::RULE;
     match flow {

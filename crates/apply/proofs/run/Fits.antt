@@ -39,7 +39,7 @@ use Rattle.reading.specs.Directive.{
 use Rattle.reading.specs.Controls.{Controls, withRanges, withTargets, addRanges, addTarget, withAllRanges, withTarget, applied}
 use Rattle.reading.specs.Controls.{beyondLimits, addRangesAnswer, addTargetAnswer}
 use Rattle.reading.specs.Actions.{Placed, placedFrom, actionsOf, controlsIn, directiveIn}
-use Rattle.reading.specs.Call.{Call, noRule, ruleAt, actionsAt}
+use Rattle.reading.specs.Call.{Given, noRule, ruleAt, actionsAt}
 use Rattle.reading.specs.Units.{actionControls, ruleControls, unitControls}
 use Rattle.reading.specs.Walk.{noAction}
 use Rattle.apply.specs.Codes.{codeOf, codeAt, codesOf}
@@ -100,19 +100,19 @@ applied-grown c at (requestBodyAccess a) = record { ranges = omega arith; target
 applied-grown c at (requestBodyProcessor p) = record { ranges = omega arith; targets = omega arith }
 applied-grown c at unsupported = grown-same c
 
-actions-grown : (q : Call) (ps : List Placed) (c : Controls) → Grown c (actionControls q ps c)
+actions-grown : (q : Given) (ps : List Placed) (c : Controls) → Grown c (actionControls q ps c)
 actions-grown q [] c = grown-same c
 actions-grown q (p ∷ ps) c =
-    let d = applied c (record { phase = q .phase; position = p .position }) (directiveIn (q .text) p) in
+    let d = applied c (record { phase = q .settings .phase; position = p .position }) (directiveIn (q .text) p) in
     grown-then c d (actionControls q ps d)
-    (applied-grown c (record { phase = q .phase; position = p .position }) (directiveIn (q .text) p))
+    (applied-grown c (record { phase = q .settings .phase; position = p .position }) (directiveIn (q .text) p))
     (actions-grown q ps d)
 
-rule-grows : (q : Call) (m : ℕ) (c : Controls) → Grown c (ruleControls q m c)
+rule-grows : (q : Given) (m : ℕ) (c : Controls) → Grown c (ruleControls q m c)
 unfolding ruleControls
 rule-grows q m c = actions-grown q (controlsIn (actionsAt q m)) c
 
-pub grows : (q : Call) (ms : List ℕ) (c : Controls) → Grown c (unitControls q ms c)
+pub grows : (q : Given) (ms : List ℕ) (c : Controls) → Grown c (unitControls q ms c)
 grows q [] c = grown-same c
 grows q (m ∷ ms) c =
     grown-then c (ruleControls q m c) (unitControls q ms (ruleControls q m c)) (rule-grows q m c)
@@ -293,10 +293,10 @@ tail-is l i a r e = ap (λ (n : ℕ). drop n l) (sym (add-one i)) ∙ (sym (drop
 
 -- A CALL'S CODES
 
-abbrev pub sourceOf : Call → Source
-sourceOf q = record { phase = q .phase; text = q .text; actions = q .actions }
+abbrev pub sourceOf : Given → Source
+sourceOf q = record { phase = q .settings .phase; text = q .text; actions = q .actions }
 
-module _ (q : Call) where
+module _ (q : Given) where
   abbrev s : Source
   s = sourceOf q
 
@@ -304,7 +304,7 @@ module _ (q : Call) where
   placed i a = record { position = i; action = a }
 
   abbrev place : ℕ → Place
-  place i = record { phase = q .phase; position = i }
+  place i = record { phase = q .settings .phase; position = i }
 
   -- what an action leaves: itself nothing, where it is no ctl
   abbrev afterAction : ℕ → Action → Controls → Controls

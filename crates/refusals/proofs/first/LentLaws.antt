@@ -11,21 +11,22 @@ use Rattle.reading.specs.Lists.{any}
 use Rattle.reading.specs.Directive.{isHigh}
 use Rattle.reading.specs.Limits.{mostRanges, mostTargets}
 use Rattle.reading.specs.Controls.{beyondLimits}
-use Rattle.reading.specs.Records.{ruleList, actionList, markerList}
-use Rattle.reading.specs.Call.{Call}
+use Rattle.reading.specs.declared.CallSettings.{CallSettings}
+use Rattle.reading.specs.Records.{ruleList, actionList, markerList, givenOf}
+use Rattle.reading.specs.Call.{Call, Transaction, Lists}
 use Rattle.reading.specs.Refusals.{refused1, refused2, refused3, refused4, refused5, refused6, refused7}
 use Rattle.reading.specs.Refusals.{badRule, badAction, badMarker, badOutcome}
 use Rattle.lists.proofs.RecordLaws.{length-actions}
 use Rattle.lists.proofs.RecordLaws.{length-rules, length-markers}
 use Rattle.refusals.specs.declared.first.Counts.{Counts}
 use Rattle.refusals.specs.declared.first.Sizes.{Sizes}
-use Rattle.refusals.specs.FirstRefusal.{Counted, Lent, firstOfFour, firstOfSeven}
+use Rattle.refusals.specs.FirstRefusal.{Sized, Counted, firstOfFour, firstOfSeven}
 
 -- the answer `t` of a test `b` of what is counted is that of the refusal
-module _ {q : Call} {phase mode : ℕ} {counts : Counts} {sizes : Sizes} (l : Counted q phase mode counts sizes) where
-  pub says-1 : {b t : Bool} → b ≡ (ltb phase 1 || ltb 5 phase || ltb 2 mode) → b ≡ t → refused1 q ≡ t
+module _ {q : Call} {call : CallSettings} {counts : Counts} {sizes : Sizes} (l : Counted q call counts sizes) where
+  pub says-1 : {b t : Bool} → b ≡ (ltb (call .phase) 1 || ltb 5 (call .phase) || ltb 2 (call .mode)) → b ≡ t → refused1 q ≡ t
   unfolding refused1
-  says-1 h e = rw (l .phase-is, l .mode-is) (sym h ∙ e)
+  says-1 h e = rw (l .settings-are) (sym h ∙ e)
 
   pub says-2 : {b t : Bool}
       → b ≡ (ltb 512 (counts .rules) || ltb 4096 (counts .actions) || ltb 256 (counts .markers) || ltb 65536 (counts .bytes))
@@ -50,49 +51,62 @@ module _ {q : Call} {phase mode : ℕ} {counts : Counts} {sizes : Sizes} (l : Co
   unfolding refused4
   agree h = rw (l .outcomes, l .rules, eq-eqb (counts .outcomes) (counts .rules) h)
 
--- the same of the lists that are lent
-module _ {q : Call} {phase mode : ℕ} {rules actions markers text outcomes : List ℕ} {sizes : Sizes}
-    (l : Lent q phase mode rules actions markers text outcomes sizes) where
-  pub counted : Counted q phase mode
+-- what a call lends, in numbers but for the transaction and the lists that are written
+pub record Lent : Type 0 where
+  pub call : CallSettings
+  pub rules : List ℕ
+  pub actions : List ℕ
+  pub markers : List ℕ
+  pub text : List ℕ
+  pub outcomes : List ℕ
+  pub t : Transaction
+  pub lists : Lists
+
+abbrev pub callOn : Lent → Call
+callOn l = record {
+  given = givenOf (l .call) (l .rules) (l .actions) (markerList (l .markers)) (l .text) (l .outcomes);
+  transaction = l .t;
+  lists = l .lists;
+}
+
+-- the same of such a call
+module _ (l : Lent) {sizes : Sizes} (s : Sized (l .t) (l .lists) sizes) where
+  pub counted : Counted (callOn l) (l .call)
       (record {
-        rules = length rules / 5;
-        actions = length actions / 6;
-        markers = length markers / 3;
-        bytes = length text;
-        outcomes = length outcomes;
+        rules = length (l .rules) / 5;
+        actions = length (l .actions) / 6;
+        markers = length (l .markers) / 3;
+        bytes = length (l .text);
+        outcomes = length (l .outcomes);
       }) sizes
   counted = record {
-    phase-is = l .phase-is;
-    mode-is = l .mode-is;
-    rules = ap length (l .rules-are) ∙ length-rules rules;
-    actions = ap length (l .actions-are) ∙ length-actions actions;
-    markers = ap length (l .markers-are) ∙ length-markers markers;
-    bytes = ap length (l .text-is);
-    outcomes = ap length (l .outcomes-are);
-    sized = l .sized;
+    settings-are = refl;
+    rules = length-rules (l .rules);
+    actions = length-actions (l .actions);
+    markers = length-markers (l .markers);
+    bytes = refl;
+    outcomes = refl;
+    sized = s;
   }
 
-  pub says-5 : {b t : Bool}
-      → b ≡ (any (badRule (length actions / 6)) (ruleList rules) || any (badAction (length text)) (actionList actions)
-      || any (badMarker (length text) (length rules / 5)) (markerList markers) || any badOutcome outcomes)
-      → b ≡ t → refused5 q ≡ t
+  pub says-5 : {b x : Bool}
+      → b ≡ (any (badRule (length (l .actions) / 6)) (ruleList (l .rules)) || any (badAction (length (l .text))) (actionList (l .actions))
+      || any (badMarker (length (l .text)) (length (l .rules) / 5)) (markerList (l .markers)) || any badOutcome (l .outcomes))
+      → b ≡ x → refused5 (callOn l) ≡ x
   unfolding refused5
-  says-5 h e =
-      rw (l .rules-are, l .actions-are, l .markers-are, l .text-is, l .outcomes-are, length-rules rules, length-actions actions)
-      (sym h ∙ e)
+  says-5 h e = rw (length-rules (l .rules), length-actions (l .actions)) (sym h ∙ e)
 
-  pub says-6 : {b t : Bool} → b ≡ any isHigh text → b ≡ t → refused6 q ≡ t
+  pub says-6 : {b x : Bool} → b ≡ any isHigh (l .text) → b ≡ x → refused6 (callOn l) ≡ x
   unfolding refused6
-  says-6 h e = rw (l .text-is) (sym h ∙ e)
+  says-6 h e = sym h ∙ e
 
-  pub says-7 : {b t : Bool}
-      → b ≡ (ltb (sizes .ids) (sizes .«ids_used» + length rules / 5)
-      || ltb (sizes .entries) (sizes .«entries_used» + length rules / 5) || ltb (sizes .journal) (length rules / 5))
-      → b ≡ t → refused7 q ≡ t
+  pub says-7 : {b x : Bool}
+      → b ≡ (ltb (sizes .ids) (sizes .«ids_used» + length (l .rules) / 5)
+      || ltb (sizes .entries) (sizes .«entries_used» + length (l .rules) / 5) || ltb (sizes .journal) (length (l .rules) / 5))
+      → b ≡ x → refused7 (callOn l) ≡ x
   unfolding refused7
   says-7 h e =
-      let s = l .sized in
-      rw (l .rules-are, length-rules rules, s .ids, s .ids-used, s .entries, s .entries-used, s .journal) (sym h ∙ e)
+      rw (length-rules (l .rules), s .ids, s .ids-used, s .entries, s .entries-used, s .journal) (sym h ∙ e)
 
 -- the first that applies of those from a number on
 abbrev pub firstFrom7 : Call → ℕ

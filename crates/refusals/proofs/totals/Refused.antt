@@ -20,7 +20,7 @@ use Rattle.reading.specs.Directive.{Directive, ruleEngine, ruleRemoveById, rule
 use Rattle.reading.specs.Directive.{requestBodyAccess, requestBodyProcessor, unsupported}
 use Rattle.reading.specs.Directive.{directiveOf, withoutLists, rangeCount, targetCount}
 use Rattle.reading.specs.Actions.{Placed, placedFrom, actionsOf, controlsIn, directiveIn}
-use Rattle.reading.specs.Call.{Call}
+use Rattle.reading.specs.Call.{Given, Call}
 use Rattle.reading.specs.Refusals.{ruleTotal, refused8, refused9}
 use Rattle.apply.specs.Codes.{codeOf, codeAt, codesOf}
 use Rattle.refusals.specs.Totals.{rangesOfCode, targetsOfCode, ruleWeight, addsBeyond, limitRefusal}
@@ -49,7 +49,7 @@ placed-total code-count text at (a ∷ l) = go (eqb (a .kind) 19) (placed-total 
     go true h = omega (arith, h)
     go false h = omega (arith, h)
 
-rule-total : (q : Call) (code-count : Directive → ℕ) (r : Rule)
+rule-total : (q : Given) (code-count : Directive → ℕ) (r : Rule)
     → ruleTotal q code-count r ≡ total (added code-count (q .text)) (take (r .count) (drop (r .first) (q .actions)))
 unfolding ruleTotal actionsOf
 rule-total q code-count r = placed-total code-count (q .text) (r .first) (take (r .count) (drop (r .first) (q .actions)))
@@ -124,7 +124,7 @@ module _ (text : List ℕ) (a : Action) where
       go false = refl
 
 -- what a rule weighs by the codes of all actions
-rule-coded : (q : Call) (w : ℕ → ℕ) (r : Rule)
+rule-coded : (q : Given) (w : ℕ → ℕ) (r : Rule)
     → ruleWeight w (codesOf (q .text) (q .actions)) r ≡ total (λ a. w (codeAt (q .text) a)) (take (r .count) (drop (r .first) (q .actions)))
 rule-coded q w r =
     let code = codeAt (q .text) in
@@ -135,7 +135,7 @@ rule-coded q w r =
 
 module _ (q : Call) where
   abbrev codes : List ℕ
-  codes = codesOf (q .text) (q .actions)
+  codes = codesOf (q .given .text) (q .given .actions)
 
   abbrev ranges : ℕ
   ranges = length (q .transaction .controls .ranges)
@@ -143,31 +143,31 @@ module _ (q : Call) where
   abbrev targets : ℕ
   targets = length (q .transaction .controls .targets)
 
-  ranges-rule : (r : Rule) → Alike (ruleWeight rangesOfCode codes r) (ruleTotal q rangeCount r)
+  ranges-rule : (r : Rule) → Alike (ruleWeight rangesOfCode codes r) (ruleTotal (q .given) rangeCount r)
   ranges-rule r =
-      ap (λ (m : ℕ). min m 257) (rule-coded q rangesOfCode r)
-      ∙ (total-alike _ _ (ranges-coded (q .text)) (take (r .count) (drop (r .first) (q .actions)))
-      ∙ ap (λ (m : ℕ). min m 257) (sym (rule-total q rangeCount r)))
+      ap (λ (m : ℕ). min m 257) (rule-coded (q .given) rangesOfCode r)
+      ∙ (total-alike _ _ (ranges-coded (q .given .text)) (take (r .count) (drop (r .first) (q .given .actions)))
+      ∙ ap (λ (m : ℕ). min m 257) (sym (rule-total (q .given) rangeCount r)))
 
-  targets-rule : (r : Rule) → ruleWeight targetsOfCode codes r ≡ ruleTotal q targetCount r
+  targets-rule : (r : Rule) → ruleWeight targetsOfCode codes r ≡ ruleTotal (q .given) targetCount r
   targets-rule r =
-      rule-coded q targetsOfCode r
-      ∙ (ap (λ (w : Action → ℕ). total w (take (r .count) (drop (r .first) (q .actions)))) (fun-ext (targets-coded (q .text)))
-      ∙ sym (rule-total q targetCount r))
+      rule-coded (q .given) targetsOfCode r
+      ∙ (ap (λ (w : Action → ℕ). total w (take (r .count) (drop (r .first) (q .given .actions)))) (fun-ext (targets-coded (q .given .text)))
+      ∙ sym (rule-total (q .given) targetCount r))
 
-  ranges-exceed : addsBeyond rangesOfCode mostRanges ranges (q .rules) codes ≡ refused8 q
+  ranges-exceed : addsBeyond rangesOfCode mostRanges ranges (q .given .rules) codes ≡ refused8 q
   unfolding refused8
-  ranges-exceed = exceeds-alike ranges _ _ (total-alike _ _ ranges-rule (q .rules))
+  ranges-exceed = exceeds-alike ranges _ _ (total-alike _ _ ranges-rule (q .given .rules))
 
-  targets-exceed : addsBeyond targetsOfCode mostTargets targets (q .rules) codes ≡ refused9 q
+  targets-exceed : addsBeyond targetsOfCode mostTargets targets (q .given .rules) codes ≡ refused9 q
   unfolding refused9
-  targets-exceed = ap (λ (w : Rule → ℕ). ltb 64 (targets + total w (q .rules))) (fun-ext targets-rule)
+  targets-exceed = ap (λ (w : Rule → ℕ). ltb 64 (targets + total w (q .given .rules))) (fun-ext targets-rule)
 
   -- refusals 8 and 9 by the codes of the actions are those of 01
-  pub limit-is : length (q .actions) ≤ 4096
-      → limitRefusal (q .rules) (take 4096 codes) ranges targets ≡ cond (refused8 q) 8 (cond (refused9 q) 9 0)
+  pub limit-is : length (q .given .actions) ≤ 4096
+      → limitRefusal (q .given .rules) (take 4096 codes) ranges targets ≡ cond (refused8 q) 8 (cond (refused9 q) 9 0)
   limit-is few =
-      let all : take 4096 codes ≡ codes = take-all 4096 codes (omega (arith, length-map (q .actions) (codeAt (q .text)))) in
+      let all : take 4096 codes ≡ codes = take-all 4096 codes (omega (arith, length-map (q .given .actions) (codeAt (q .given .text)))) in
       rw (all, ranges-exceed, targets-exceed)
 
 -- the codes that `write_codes` leaves where all fit, and the front that they are

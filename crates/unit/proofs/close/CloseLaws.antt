@@ -3,24 +3,24 @@ use Prim.Native.Nat.{ℕ, min}
 use mathlib.Core.Path.{_≡_, ap, _∙_}
 use mathlib.Core.List.{List}
 use lib.ListN.{length, take, getD}
+use Rattle.reading.specs.declared.CallSettings.{CallSettings}
 use Rattle.reading.specs.declared.Rule.{Rule}
 use Rattle.reading.specs.declared.OptionU64.{OptionU64}
 use Rattle.reading.specs.declared.DisruptiveOutcome.{DisruptiveOutcome}
 use Rattle.reading.specs.declared.FlowOutcome.{FlowOutcome}
 use Rattle.reading.specs.Lists.{over, gather}
 use Rattle.reading.specs.Numbers.{listOf}
-use Rattle.reading.specs.Records.{ruleList, actionList, journalList, matchedIn}
+use Rattle.reading.specs.Records.{ruleList, actionList, markerList, journalList, matchedIn, givenOf}
 use Rattle.reading.specs.Actions.{actionsOf, lastFlow, lastDisruptive}
-use Rattle.reading.specs.Call.{Call, ruleCount, noRule, recordId, ruleAt, idAt, outcomeAt, actionsAt}
+use Rattle.reading.specs.Call.{Given, ruleCount, noRule, recordId, ruleAt, idAt, outcomeAt, actionsAt}
 use Rattle.reading.specs.Units.{starterOf, unitData, unitFlow, unitDisruptive}
 use Rattle.reading.specs.Walk.{afterFlow}
-use Rattle.unit.specs.MemberList.{Rest, callWith}
 use Rattle.unit.specs.CloseUnit.{memberEntry, Listed, Wrote}
 
-module _ (phase : ℕ) (rules actions markers text outcomes members : List ℕ) (rest : Rest) (past : ℕ) (ids entries : List ℕ)
+module _ (call : CallSettings) (rules actions markers text outcomes members : List ℕ) (past : ℕ) (ids entries : List ℕ)
   where
-    abbrev q : Call
-    q = callWith phase rules actions markers text outcomes rest
+    abbrev q : Given
+    q = givenOf call rules actions (markerList markers) text outcomes
 
     abbrev unit : List ℕ
     unit = matchedIn (journalList members)
@@ -31,9 +31,9 @@ module _ (phase : ℕ) (rules actions markers text outcomes members : List ℕ) 
       unfolding idAt ruleAt
       starter-id = id-is ∙ ap recordId rule-is
 
-      data-is : gather (memberEntry phase id (ruleList rules) outcomes) unit ≡ unitData q unit
+      data-is : gather (memberEntry (call .phase) id (ruleList rules) outcomes) unit ≡ unitData q unit
       unfolding idAt ruleAt outcomeAt
-      data-is = ap (λ (i : OptionU64). gather (memberEntry phase i (ruleList rules) outcomes) unit) starter-id
+      data-is = ap (λ (i : OptionU64). gather (memberEntry (call .phase) i (ruleList rules) outcomes) unit) starter-id
 
       flow-is : lastFlow (actionsOf (actionList actions) rule) ≡ unitFlow q unit
       unfolding unitFlow actionsAt ruleAt
@@ -45,7 +45,7 @@ module _ (phase : ℕ) (rules actions markers text outcomes members : List ℕ) 
 
       pub closed-now : (listed written next : ℕ) (flow : FlowOutcome) (disruptive : DisruptiveOutcome) (ids′ entries′ : List ℕ)
           → listed ≡ length (take (length ids) (listOf id)) → ids′ ≡ over ids (take (length ids) (listOf id))
-          → Listed (gather (memberEntry phase id (ruleList rules) outcomes) unit) entries written entries′
+          → Listed (gather (memberEntry (call .phase) id (ruleList rules) outcomes) unit) entries written entries′
           → flow ≡ lastFlow (actionsOf (actionList actions) rule) → disruptive ≡ lastDisruptive
           (actionsOf (actionList actions) rule)
           → next ≡ min (afterFlow q past flow) (ruleCount q)

@@ -10,19 +10,19 @@ use lib.ListN.{getD}
 use Rattle.reading.specs.declared.OptionU64.{OptionU64}
 use Rattle.reading.specs.declared.FlowOutcome.{FlowOutcome}
 use Rattle.reading.specs.Reading.{rust, jumps}
-use Rattle.reading.specs.Records.{actionList, markerList}
+use Rattle.reading.specs.declared.CallSettings.{CallSettings}
+use Rattle.reading.specs.Records.{actionList, markerList, givenOf}
 use Rattle.reading.specs.Text.{partOf}
-use Rattle.reading.specs.Call.{Call, ruleCount}
+use Rattle.reading.specs.Call.{Given, ruleCount}
 use Rattle.reading.specs.Markers.{markerPosition}
 use Rattle.reading.specs.Walk.{jumpFrom, afterFlow, noAction}
-use Rattle.unit.specs.MemberList.{Rest, callWith}
 
 -- 01's reading jumps only to a position that is greater
 rust-jumps : (position past : ℕ) (b : Bool) → ltb past position ≡ b → jumps rust position past ≡ b
 rust-jumps position past true e = rw e
 rust-jumps position past false e = rw e
 
-module _ (past rules : ℕ) (q : Call) (reading : q .reading ≡ rust) (count : ruleCount q ≡ rules) (found : OptionU64) where
+module _ (past rules : ℕ) (q : Given) (reading : q .reading ≡ rust) (count : ruleCount q ≡ rules) (found : OptionU64) where
   pub jump-none : found ≡ OptionU64.None → rules ≡ min (jumpFrom q past found) rules
   jump-none e = rw (e, count) (omega arith)
 
@@ -40,11 +40,11 @@ module _ (past rules : ℕ) (q : Call) (reading : q .reading ≡ rust) (count : 
     jump-to h l = rw (by true (lt-ltb past position h)) (omega arith)
 
 -- what the callees gave, for a call with these lists
-module _ (phase : ℕ) (rules actions markers text outcomes : List ℕ) (rest : Rest) (past n : ℕ)
-    (count : n ≡ ruleCount (callWith phase rules actions markers text outcomes rest))
+module _ (call : CallSettings) (rules actions markers text outcomes : List ℕ) (past n : ℕ)
+    (count : n ≡ ruleCount (givenOf call rules actions (markerList markers) text outcomes))
     (flow : FlowOutcome) (r : ℕ) where
-  abbrev q : Call
-  q = callWith phase rules actions markers text outcomes rest
+  abbrev q : Given
+  q = givenOf call rules actions (markerList markers) text outcomes
 
   pub flow-on : flow ≡ FlowOutcome.Continue → r ≡ min (past + 0) n → r ≡ min (afterFlow q past flow) (ruleCount q)
   flow-on f e = let z : past + 0 ≡ past = omega arith in e ∙ rw (f, z, count)
@@ -57,6 +57,6 @@ module _ (phase : ℕ) (rules actions markers text outcomes : List ℕ) (rest : 
 
   pub flow-after : (at : ℕ) → flow ≡ FlowOutcome.SkipAfter at → (found : OptionU64)
       → found ≡ markerPosition text (markerList markers) (partOf text (getD (actionList actions) at noAction .text))
-      → ((p : Call) → p .reading ≡ rust → ruleCount p ≡ n → r ≡ min (jumpFrom p past found) n)
+      → ((p : Given) → p .reading ≡ rust → ruleCount p ≡ n → r ≡ min (jumpFrom p past found) n)
       → r ≡ min (afterFlow q past flow) (ruleCount q)
   flow-after at f found g e = e q refl (sym count) ∙ rw (f, g, count)

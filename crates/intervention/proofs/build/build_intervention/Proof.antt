@@ -21,18 +21,18 @@ unit-intervention-requires : tie.Need-unit-intervention-requires
 unit-intervention-requires c κs = search needs
 
 returns : tie.Need-returns
-returns c markers text outcomes rest status = rw (c .enum-told .given .1)
+returns c markers text outcomes = rw (c .enum-told .given .1)
 
 returns-2 : tie.Need-returns-2
-returns-2 c markers text outcomes rest status = rw (c .enum-told2 .given .1)
+returns-2 c markers text outcomes = rw (c .enum-told2 .given .1)
 
 returns-3 : tie.Need-returns-3
-returns-3 c markers text outcomes rest status = rw (c .enum-told3 .given .1)
+returns-3 c markers text outcomes = rw (c .enum-told3 .given .1)
 
 returns-4 : tie.Need-returns-4
-returns-4 c markers text outcomes rest status =
+returns-4 c markers text outcomes =
     rw (c .before .enum-told4 .given .1)
-    (ap OptionIntervention.Some (c .unit-intervention .ensures markers text outcomes rest status))
+    (ap OptionIntervention.Some (c .unit-intervention .ensures markers text outcomes))
 
 pub build-intervention-spec : {M : Type 1} → statement M
 build-intervention-spec =

@@ -46,13 +46,13 @@ is-drop-requires : tie.Need-is-drop-requires
 is-drop-requires c κs = search needs
 
 returns : tie.Need-returns
-returns c markers text outcomes rest status =
+returns c markers text outcomes =
     let identified = c .before .before .before .before .before in
     let executed = identified .before .before .before in
     let closed = executed .before .before .before in
     let given = closed .before .before .before .before .before .args in
     let unit = matchedIn (journalList (now (given .members))) in
-    unit-is (given .phase) (now (given .rules)) (now (given .actions)) markers text outcomes rest unit status
+    unit-is (given .call) (now (given .rules)) (now (given .actions)) markers text outcomes unit
     (closed .before .starter-of .ensures) (closed .closer-of .ensures)
     (executed .before .before .rule-at .ensures) (identified .before .rule-at2 .ensures)
     (executed .execute-actions .ensures .disruptive) (executed .execute-actions .ensures .metadata)

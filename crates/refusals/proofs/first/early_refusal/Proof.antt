@@ -30,7 +30,7 @@ is-miscounted-requires c κs = search needs
 
 -- a call that is counted so, after the tests 1 and 2
 past-two : (c : tie.Else2) (q : Call)
-    → Counted q (c .before .before .before .before .args .phase) (c .before .before .before .before .args .mode)
+    → Counted q (c .before .before .before .before .args .call)
     (c .before .before .before .before .args .counts) (c .before .before .before .before .args .sizes)
     → firstOfFour q ≡ cond (refused3 q) 3 (cond (refused4 q) 4 0)
 unfolding firstOfFour

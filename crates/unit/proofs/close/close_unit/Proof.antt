@@ -42,7 +42,7 @@ same-length-2 : tie.Need-same-length-2
 same-length-2 c = search needs
 
 returns : tie.Need-returns
-returns c = λ rest.
+returns c =
     let executed = c .before .before in
     let entered = executed .before .before .before .before in
     let listed = entered .before .before .before .before in
@@ -53,11 +53,11 @@ returns c = λ rest.
     let p = listed .put-id in
     let w = entered .put-entries in
     let x = executed .execute-actions in
-    closed-now (a .phase) (now (a .rules)) (now (a .actions)) (now (a .markers)) (now (a .text)) (now (a .outcomes))
-    (now (a .members)) rest (a .past) (now (a .ids)) (now (a .entries))
+    closed-now (a .call) (now (a .rules)) (now (a .actions)) (now (a .markers)) (now (a .text)) (now (a .outcomes))
+    (now (a .members)) (a .past) (now (a .ids)) (now (a .entries))
     (r .result) (rw (named .before .before .starter-of .ensures) at (r .ensures)) (i .result) (i .ensures) (p .result) (w .result)
     (c .after-flow .result) (x .result .flow) (x .result .disruptive) _ _ (p .ensures .0) (p .ensures .1) (w .ensures)
-    (x .ensures .flow) (x .ensures .disruptive) (c .after-flow .ensures (a .phase) (now (a .outcomes)) rest)
+    (x .ensures .flow) (x .ensures .disruptive) (c .after-flow .ensures (a .call) (now (a .outcomes)))
 
 pub close-unit-spec : {M : Type 1} → statement M
 close-unit-spec =

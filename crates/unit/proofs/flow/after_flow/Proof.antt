@@ -4,7 +4,6 @@ use denote.Ref.{now}
 use Rattle.lists.proofs.RecordLaws.{length-rules}
 use Rattle.unit.proofs.flow.FlowLaws.{flow-on, flow-chain, flow-skip, flow-after}
 use borrow.Author.Needs.{needs}
-use borrow.Author.Needs.{needs}
 use Rattle.unit.proofs.flow.after_flow.Statement.{statement}
 use Rattle.unit.proofs.flow.after_flow.Tie as tie
 
@@ -15,8 +14,8 @@ skip-to-requires : tie.Need-skip-to-requires
 skip-to-requires c κs = search needs
 
 returns : tie.Need-returns
-returns c = λ phase outcomes rest. let a = c .before .before .before .before .before .before .before .args in
-    flow-on phase (now (a .rules)) (now (a .actions)) (now (a .markers)) (now (a .text)) outcomes rest (a .past) _
+returns c = λ call outcomes. let a = c .before .before .before .before .before .before .before .args in
+    flow-on call (now (a .rules)) (now (a .actions)) (now (a .markers)) (now (a .text)) outcomes (a .past) _
     (sym (length-rules (now (a .rules)))) (a .flow) (c .skip-to .result) (c .before .enum-told .given .1)
     (c .skip-to .ensures)
 
@@ -27,8 +26,8 @@ skip-to-requires-2 : tie.Need-skip-to-requires-2
 skip-to-requires-2 c κs = search needs
 
 returns-2 : tie.Need-returns-2
-returns-2 c = λ phase outcomes rest. let a = c .before .before .before .before .before .before .before .args in
-    flow-chain phase (now (a .rules)) (now (a .actions)) (now (a .markers)) (now (a .text)) outcomes rest (a .past) _
+returns-2 c = λ call outcomes. let a = c .before .before .before .before .before .before .before .args in
+    flow-chain call (now (a .rules)) (now (a .actions)) (now (a .markers)) (now (a .text)) outcomes (a .past) _
     (sym (length-rules (now (a .rules)))) (a .flow) (c .skip-to2 .result) (c .before .enum-told2 .given .1)
     (c .skip-to2 .ensures)
 
@@ -39,8 +38,8 @@ skip-to-requires-3 : tie.Need-skip-to-requires-3
 skip-to-requires-3 c κs = search needs
 
 returns-3 : tie.Need-returns-3
-returns-3 c = λ phase outcomes rest. let a = c .before .before .before .before .before .before .before .before .args in
-    flow-skip phase (now (a .rules)) (now (a .actions)) (now (a .markers)) (now (a .text)) outcomes rest (a .past) _
+returns-3 c = λ call outcomes. let a = c .before .before .before .before .before .before .before .before .args in
+    flow-skip call (now (a .rules)) (now (a .actions)) (now (a .markers)) (now (a .text)) outcomes (a .past) _
     (sym (length-rules (now (a .rules)))) (a .flow) (c .skip-to3 .result) (c .before .before .flow .given .0 .0)
     (c .before .before .flow .given .1) (c .skip-to3 .ensures)
 
@@ -57,11 +56,11 @@ jump-to-requires : tie.Need-jump-to-requires
 jump-to-requires c κs = search needs
 
 returns-4 : tie.Need-returns-4
-returns-4 c = λ phase outcomes rest. let a = c .before .before .before .before .before .before .before .before .before .before
+returns-4 c = λ call outcomes. let a = c .before .before .before .before .before .before .before .before .before .before
     .before .args in
     let name = c .before .before .before .action-at in
     let found = c .before .marker in
-    flow-after phase (now (a .rules)) (now (a .actions)) (now (a .markers)) (now (a .text)) outcomes rest (a .past) _
+    flow-after call (now (a .rules)) (now (a .actions)) (now (a .markers)) (now (a .text)) outcomes (a .past) _
     (sym (length-rules (now (a .rules)))) (a .flow) (c .jump-to .result)
     (c .before .before .before .before .before .flow2 .given .0 .0) (c .before .before .before .before .before .flow2 .given .1)
     (found .result) (rw (name .ensures) at (found .ensures)) (c .jump-to .ensures)
