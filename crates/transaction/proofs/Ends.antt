@@ -10,7 +10,7 @@ use Rattle.reading.specs.declared.RuleEngineMode.{RuleEngineMode}
 use Rattle.reading.specs.declared.OptionIntervention.{OptionIntervention}
 use Rattle.reading.specs.Reading.{rust}
 use Rattle.reading.specs.Controls.{Controls, isOn}
-use Rattle.reading.specs.Call.{Call, modeUnder, isLink, ruleCount}
+use Rattle.reading.specs.Call.{Given, modeUnder, isLink, ruleCount}
 use Rattle.reading.specs.Units.{unitDisruptive, unitIntervention, isAllow, isStopping}
 use Rattle.reading.specs.Walk.{State, Visit, goesOn, allows, errs, stops, isLast, isError, givesAllow, interventionOr, visitBy}
 use Rattle.reading.specs.Walk.{verdictAt}
@@ -69,7 +69,7 @@ abbrev pub endOf : Verdict → DisruptiveOutcome → RuleEngineMode → Ending
 endOf found d mode = cond (visit.isError found) Ending.Errs (endBy d mode)
 
 -- by what is found and whether the rule is a link
-module _ (q : Call) (reading : q .reading ≡ rust) (st : State) (chained : Bool) (first : ℕ) where
+module _ (q : Given) (reading : q .reading ≡ rust) (st : State) (chained : Bool) (first : ℕ) where
   abbrev unit : List ℕ
   unit = st .members ++ (st .next ∷ [])
 
@@ -97,7 +97,7 @@ module _ (q : Call) (reading : q .reading ≡ rust) (st : State) (chained : Bool
   stopping-by Verdict.Error l i e = refl
 
 -- the same of the rule that the walk stands at
-module _ (q : Call) (reading : q .reading ≡ rust) (ms : List ℕ) (c : Controls) (s : code.State) (visits : ℕ)
+module _ (q : Given) (reading : q .reading ≡ rust) (ms : List ℕ) (c : Controls) (s : code.State) (visits : ℕ)
     (inside : s .next < ruleCount q)
     (found : Verdict) (found-is : found ≡ verdictAt q c (s .next)) (w : VisitOutcome) (w-is : w ≡ foundAt (q .rules) s visits found)
   where

@@ -15,7 +15,7 @@ use Rattle.reading.specs.Lists.{keep}
 use Rattle.reading.specs.Numbers.{verdictNumber, modeOfNumber}
 use Rattle.reading.specs.Reading.{rust}
 use Rattle.reading.specs.Controls.{Controls, isRemoved, rangeList, modeOr}
-use Rattle.reading.specs.Call.{Call, ruleCount, ruleAt, idAt, outcomeAt, recordId, isLink, noRule, modeUnder}
+use Rattle.reading.specs.Call.{Given, ruleCount, ruleAt, idAt, outcomeAt, recordId, isLink, noRule, modeUnder}
 use Rattle.reading.specs.Units.{unitControls, unitFlow}
 use Rattle.reading.specs.Walk.{State, Visit, visitBy, visitAt, verdictAt, verdictBy, afterChain, afterFlow, entryOf, chainRest}
 use Rattle.control.specs.declared.state.Controls as held
@@ -29,7 +29,7 @@ false-true : false ≡ true → ⊥
 false-true e = true-false (sym e)
 
 -- what the code finds of a rule is the definition's verdict, as long as all held ranges are in the arrays
-found-law : (q : Call) (c : held.Controls) (i : ℕ) (found : Verdict) → c .ranges ≤ 256
+found-law : (q : Given) (c : held.Controls) (i : ℕ) (found : Verdict) → c .ranges ≤ 256
     → found ≡ cond (isRemoved (rangeList (min (c .ranges) 256) (c .starts) (c .ends)) (recordId (getD (q .rules) i noRule)))
     Verdict.Removed (verdictBy (getD (q .outcomes) i 0))
     → found ≡ verdictAt q (controlsOf c) i
@@ -58,7 +58,7 @@ visit-verdict rules s visits found w e = rw e (go (ltb (s .next) (length rules))
     go false = refl
 
 -- the same of a visit under the ranges of a struct
-module _ (q : Call) (c : held.Controls) (s : code.State) (visits : ℕ) (few : c .ranges ≤ 256) (w : VisitOutcome)
+module _ (q : Given) (c : held.Controls) (s : code.State) (visits : ℕ) (few : c .ranges ≤ 256) (w : VisitOutcome)
     (w-is : w ≡ foundAt (q .rules) s visits
     (cond (isRemoved (rangeList (min (c .ranges) 256) (c .starts) (c .ends)) (recordId (getD (q .rules) (s .next) noRule)))
     Verdict.Removed (verdictBy (getD (q .outcomes) (s .next) 0)))) where
@@ -77,14 +77,14 @@ module _ (q : Call) (c : held.Controls) (s : code.State) (visits : ℕ) (few : c
   visit-found = w-is ∙ ap (foundAt (q .rules) s visits) (sym verdict-now)
 
 -- the mode under the controls of a struct
-pub mode-law : (q : Call) (c : held.Controls) (m now : RuleEngineMode) → m ≡ modeOfNumber (q .mode) → now ≡ modeOr m
+pub mode-law : (q : Given) (c : held.Controls) (m now : RuleEngineMode) → m ≡ modeOfNumber (q .settings .mode) → now ≡ modeOr m
     (c .settings .mode)
     → now ≡ modeUnder q (controlsOf c)
 unfolding controlsOf
 mode-law q c m now e f = rw e at f
 
 -- a rule of the definitions' state, given what is found and whether it is a link; `w` is what the code finds
-module _ (q : Call) (reading : q .reading ≡ rust) (st : State) (chained : Bool) (first : ℕ) where
+module _ (q : Given) (reading : q .reading ≡ rust) (st : State) (chained : Bool) (first : ℕ) where
   abbrev unit : List ℕ
   unit = st .members ++ (st .next ∷ [])
 
@@ -154,7 +154,7 @@ module _ (q : Call) (reading : q .reading ≡ rust) (st : State) (chained : Bool
       kept false d = sym (h d)
 
 -- the same of the rule that the walk stands at
-module _ (q : Call) (reading : q .reading ≡ rust) (ms : List ℕ) (c : Controls) (s : code.State) (visits : ℕ)
+module _ (q : Given) (reading : q .reading ≡ rust) (ms : List ℕ) (c : Controls) (s : code.State) (visits : ℕ)
     (inside : s .next < ruleCount q)
     (found : Verdict) (found-is : found ≡ verdictAt q c (s .next)) (w : VisitOutcome) (w-is : w ≡ foundAt (q .rules) s visits found)
   where

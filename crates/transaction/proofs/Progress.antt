@@ -8,10 +8,10 @@ use native.Mathlib.Nat.{sub-zero}
 use lib.ListN.{length, take, drop, length-append, take-append-drop}
 use lib.Seq.{length-take-le, drop-drop}
 use Rattle.reading.specs.declared.OptionIntervention.{OptionIntervention}
-use Rattle.reading.specs.Records.{dataWords, journalWords, matchedIn}
+use Rattle.reading.specs.Records.{lent, dataWords, journalWords, matchedIn}
 use Rattle.reading.specs.Controls.{isOff}
 use Rattle.reading.specs.Controls as reading
-use Rattle.reading.specs.Call.{Call, ruleCount, modeUnder}
+use Rattle.reading.specs.Call.{Given, ruleCount, modeUnder}
 use Rattle.reading.specs.Walk.{Visit, journalOf, idsOf, dataOf, controlsAfter, allowedBy}
 use Rattle.reading.specs.Walk.{interventionBy, answerBy, errorIndexBy, walk}
 use Rattle.theorems.specs.WithinLimits.{length-journal}
@@ -31,7 +31,7 @@ use Rattle.transaction.proofs.Turns.{allowed-after, intervention-after,
 use Rattle.transaction.proofs.Parts.{whole-length}
 
 -- what the three lists hold after the visits `done`
-pub record Written (q : Call) (t : Transaction) (ids₀ entries₀ journal₀ : List ℕ) (done : List Visit)
+pub record Written (q : Given) (t : Transaction) (ids₀ entries₀ journal₀ : List ℕ) (done : List Visit)
     (ids entries journal : List ℕ)
     (visits listed written : ℕ) : Type 0 where
   pub count : length done ≡ visits
@@ -42,13 +42,13 @@ pub record Written (q : Call) (t : Transaction) (ids₀ entries₀ journal₀ : 
   pub written-is : written ≡ t .entries + length (dataOf q done)
 
 -- how far the walk is
-pub record Sofar (q : Call) (t : Transaction) (ids₀ entries₀ journal₀ : List ℕ) (ids entries journal : List ℕ) (c : Controls)
+pub record Sofar (q : Given) (t : Transaction) (ids₀ entries₀ journal₀ : List ℕ) (ids entries journal : List ℕ) (c : Controls)
     (s : State)
     (visits listed written : ℕ) : Type 0 where
   -- the visits so far, and the members of the open chain
   pub done : List Visit
   pub members : List ℕ
-  pub whole : visitsFrom q ≡ done ++ walk (ruleCount q - visits) q
+  pub whole : visitsFrom q t ≡ done ++ walk (ruleCount q - visits) q
       (record { next = s .next; members = members; controls = controlsOf c })
   pub going : Going done
   pub lists : Written q t ids₀ entries₀ journal₀ done ids entries journal visits listed written
@@ -58,16 +58,15 @@ pub record Sofar (q : Call) (t : Transaction) (ids₀ entries₀ journal₀ : Li
   pub entry : entryBy s visits ≤ visits
   pub ahead : visits ≤ s .next
 
-pub sofar-none : (q : Call) (t : Transaction) (codes ids entries journal : List ℕ) → q .transaction .controls ≡ controlsOf
-    (t .controls)
-    → Ready q t codes ids entries journal
+pub sofar-none : (q : Given) (t : Transaction) (codes ids entries journal : List ℕ)
+    → Ready q t codes (lent ids entries journal)
     → Sofar q t ids entries journal ids entries journal (t .controls) (record { next = 0; chained = false; first = 0 }) 0 (t .ids)
     (t .entries)
-sofar-none q t codes ids entries journal held ready =
+sofar-none q t codes ids entries journal ready =
     record {
       done = [];
       members = [];
-      whole = rw (sub-zero, held);
+      whole = rw sub-zero;
       going = tt;
       lists = record {
         count = refl;
@@ -86,20 +85,20 @@ sofar-none q t codes ids entries journal held ready =
 
 -- ROOM AND LENGTHS
 
-module _ (q : Call) (t : Transaction) (codes ids₀ entries₀ journal₀ : List ℕ) (ready : Ready q t codes ids₀ entries₀ journal₀)
-    (done rest : List Visit) (whole : visitsFrom q ≡ done ++ rest) where
+module _ (q : Given) (t : Transaction) (codes ids₀ entries₀ journal₀ : List ℕ) (ready : Ready q t codes (lent ids₀ entries₀ journal₀))
+    (done rest : List Visit) (whole : visitsFrom q t ≡ done ++ rest) where
   visits-room : length done + length rest ≤ ruleCount q
   visits-room = omega (arith, length-append done rest, ap length whole, ready .visits-few)
 
   ids-room : length (idsOf q done) + length (idsOf q rest) ≤ ruleCount q
   ids-room =
-      let z : length (idsOf q (visitsFrom q)) ≡ length (idsOf q done ++ idsOf q rest) = ap length
+      let z : length (idsOf q (visitsFrom q t)) ≡ length (idsOf q done ++ idsOf q rest) = ap length
       (ap (idsOf q) whole ∙ ids-append q done rest) in
       omega (arith, length-append (idsOf q done) (idsOf q rest), ready .ids-few)
 
   data-room : length (dataOf q done) + length (dataOf q rest) ≤ ruleCount q
   data-room =
-      let z : length (dataOf q (visitsFrom q)) ≡ length (dataOf q done ++ dataOf q rest) = ap length
+      let z : length (dataOf q (visitsFrom q t)) ≡ length (dataOf q done ++ dataOf q rest) = ap length
       (ap (dataOf q) whole ∙ data-append q done rest) in
       omega (arith, length-append (dataOf q done) (dataOf q rest), ready .data-few)
 
@@ -152,7 +151,7 @@ module _ (q : Call) (t : Transaction) (codes ids₀ entries₀ journal₀ : List
         (omega (arith, entries-inside)))
 
 -- the lists at the head of a turn, and the ranges that are held
-module _ (q : Call) (t : Transaction) (codes ids₀ entries₀ journal₀ : List ℕ) (ready : Ready q t codes ids₀ entries₀ journal₀)
+module _ (q : Given) (t : Transaction) (codes ids₀ entries₀ journal₀ : List ℕ) (ready : Ready q t codes (lent ids₀ entries₀ journal₀))
     (ids entries journal : List ℕ) (c : Controls) (s : State) (visits listed written : ℕ)
     (so : Sofar q t ids₀ entries₀ journal₀ ids entries journal c s visits listed written) where
   abbrev left : List Visit
@@ -175,11 +174,11 @@ module _ (q : Call) (t : Transaction) (codes ids₀ entries₀ journal₀ : List
   pub few-ranges : c .ranges ≤ 256
   few-ranges =
       let m = so .controls .meaning in
-      let z : controlsAfter (controlsOf (t .controls)) (visitsFrom q) ≡ controlsAfter (controlsOf c) left =
+      let z : controlsAfter (controlsOf (t .controls)) (visitsFrom q t) ≡ controlsAfter (controlsOf c) left =
       ap (controlsAfter (controlsOf (t .controls))) (so .whole)
       ∙ (controls-append (controlsOf (t .controls)) (so .done) left ∙ ap (λ (x : reading.Controls). controlsAfter x left) (sym m))
       in
-      let g : Grown (controlsOf c) (controlsAfter (controlsOf (t .controls)) (visitsFrom q)) =
+      let g : Grown (controlsOf c) (controlsAfter (controlsOf (t .controls)) (visitsFrom q t)) =
       rw z (walk-grows (ruleCount q - visits) q (record { next = s .next; members = so .members; controls = controlsOf c })) in
       let l : length (controlsOf c .ranges) ≡ length (controlsAfter (controlsOf (t .controls)) (so .done) .ranges) = ap
       (λ (x : reading.Controls). length (x .ranges)) m in
@@ -188,31 +187,31 @@ module _ (q : Call) (t : Transaction) (codes ids₀ entries₀ journal₀ : List
 -- THE END
 
 -- what is written at the end is what is promised
-pub finished : (q : Call) (t : Transaction) (ids₀ entries₀ journal₀ ids entries journal : List ℕ) (c : Controls)
+pub finished : (q : Given) (t : Transaction) (ids₀ entries₀ journal₀ ids entries journal : List ℕ) (c : Controls)
     (visits listed written last : ℕ) (e : Ending)
     (stop : OptionIntervention)
-    → Written q t ids₀ entries₀ journal₀ (visitsFrom q) ids entries journal visits listed written
-    → Became (t .controls) c (controlsAfter (controlsOf (t .controls)) (visitsFrom q))
-    → cond (isErrs e) 10 0 ≡ answerBy (visitsFrom q) → cond (isErrs e) last 0 ≡ errorIndexBy (visitsFrom q)
-    → isAllows e ≡ allowedBy (visitsFrom q) → stop ≡ interventionBy (visitsFrom q)
-    → Walked q t ids₀ entries₀ journal₀ (endedBy e last visits listed written stop c) ids entries journal
+    → Written q t ids₀ entries₀ journal₀ (visitsFrom q t) ids entries journal visits listed written
+    → Became (t .controls) c (controlsAfter (controlsOf (t .controls)) (visitsFrom q t))
+    → cond (isErrs e) 10 0 ≡ answerBy (visitsFrom q t) → cond (isErrs e) last 0 ≡ errorIndexBy (visitsFrom q t)
+    → isAllows e ≡ allowedBy (visitsFrom q t) → stop ≡ interventionBy (visitsFrom q t)
+    → Walked q t (lent ids₀ entries₀ journal₀) (endedBy e last visits listed written stop c) (lent ids entries journal)
 finished q t ids₀ entries₀ journal₀ ids entries journal c visits listed written last e stop w b a x l i =
     record {
       answer = a;
       error = x;
       visits = sym (w .count);
       journal-numbers =
-          let n : 2 * visits ≡ length (journalWords (journalOf (visitsFrom q))) =
-          omega (arith, length-journal-words (journalOf (visitsFrom q)), length-journal (visitsFrom q), w .count) in
-          w .journal-is ∙ ap (λ (k : ℕ). journalWords (journalOf (visitsFrom q)) ++ drop k journal₀) n;
+          let n : 2 * visits ≡ length (journalWords (journalOf (visitsFrom q t))) =
+          omega (arith, length-journal-words (journalOf (visitsFrom q t)), length-journal (visitsFrom q t), w .count) in
+          w .journal-is ∙ ap (λ (k : ℕ). journalWords (journalOf (visitsFrom q t)) ++ drop k journal₀) n;
       ids-listed =
-          rw (w .ids-are, w .listed-is, ← drop-drop (length (idsOf q (visitsFrom q))) (t .ids) ids₀)
-          (append-assoc (take (t .ids) ids₀) (idsOf q (visitsFrom q))
-          (drop (length (idsOf q (visitsFrom q))) (drop (t .ids) ids₀)));
+          rw (w .ids-are, w .listed-is, ← drop-drop (length (idsOf q (visitsFrom q t))) (t .ids) ids₀)
+          (append-assoc (take (t .ids) ids₀) (idsOf q (visitsFrom q t))
+          (drop (length (idsOf q (visitsFrom q t))) (drop (t .ids) ids₀)));
       data-numbers =
-          let d = dataWords (dataOf q (visitsFrom q)) in
+          let d = dataWords (dataOf q (visitsFrom q t)) in
           let n : 4 * written ≡ 4 * t .entries + length d = omega
-          (arith, length-data-words (dataOf q (visitsFrom q)), w .written-is) in
+          (arith, length-data-words (dataOf q (visitsFrom q t)), w .written-is) in
           rw (w .entries-are, n, ← drop-drop (length d) (4 * t .entries) entries₀)
           (append-assoc (take (4 * t .entries) entries₀) d (drop (length d) (drop (4 * t .entries) entries₀)));
       ids-used = w .listed-is;
@@ -222,16 +221,16 @@ finished q t ids₀ entries₀ journal₀ ids entries journal c visits listed wr
       intervention = i;
     }
 
-pub sofar-end : (q : Call) (t : Transaction) (ids₀ entries₀ journal₀ ids entries journal : List ℕ) (c : Controls) (s : State)
+pub sofar-end : (q : Given) (t : Transaction) (ids₀ entries₀ journal₀ ids entries journal : List ℕ) (c : Controls) (s : State)
     (visits listed written : ℕ)
     → Sofar q t ids₀ entries₀ journal₀ ids entries journal c s visits listed written → ruleCount q ≤ s .next
-    → Walked q t ids₀ entries₀ journal₀ (endedBy Ending.GoesOn 0 visits listed written OptionIntervention.None c) ids entries
-    journal
+    → Walked q t (lent ids₀ entries₀ journal₀) (endedBy Ending.GoesOn 0 visits listed written OptionIntervention.None c)
+    (lent ids entries journal)
 sofar-end q t ids₀ entries₀ journal₀ ids entries journal c s visits listed written so h =
-    let e : visitsFrom q ≡ so .done ++ [] =
+    let e : visitsFrom q t ≡ so .done ++ [] =
     rw (← walk-end (ruleCount q - visits) q (record { next = s .next; members = so .members; controls = controlsOf c }) h)
     (so .whole) in
-    let d : visitsFrom q ≡ so .done = e ∙ append-nil (so .done) in
+    let d : visitsFrom q t ≡ so .done = e ∙ append-nil (so .done) in
     finished q t ids₀ entries₀ journal₀ ids entries journal c visits listed written 0 Ending.GoesOn OptionIntervention.None
     (rw d (so .lists))
     (rw d (so .controls))

@@ -1,5 +1,5 @@
 -- What the tests of the phase call say of its refusals, and that nothing is to do, from what its callees leave.
-use Prim.Native.Nat.{ℕ, _/_, _≤_}
+use Prim.Native.Nat.{ℕ, _*_, _/_, _≤_}
 use mathlib.Core.Path.{_≡_, refl, sym, ap, subst, _∙_}
 use mathlib.Core.Bool.{Bool, true, false, _||_}
 use mathlib.Core.List.{List}
@@ -9,8 +9,11 @@ use Rattle.reading.specs.declared.RuleEngineMode.{RuleEngineMode}
 use Rattle.reading.specs.Lists.{over}
 use Rattle.reading.specs.Numbers.{modeOfNumber}
 use Rattle.reading.specs.Controls.{isOff, modeOr}
-use Rattle.reading.specs.Records.{ruleList, actionList}
-use Rattle.reading.specs.Call.{Call}
+use Rattle.reading.specs.Records.{ruleList, actionList, markerList, journalList, givenOf, LentLists}
+use Rattle.reading.specs.declared.CallSettings.{CallSettings}
+use Rattle.reading.specs.declared.Report.{Report}
+use Rattle.reading.specs.Report.{reportOf}
+use Rattle.reading.specs.Call.{Given, Call}
 use Rattle.reading.specs.Walk.{isStopped, nothingToDo}
 use Rattle.reading.specs.Refusals.{refusalOf}
 use Rattle.lists.proofs.RecordLaws.{length-rules}
@@ -21,36 +24,33 @@ use Rattle.apply.specs.Codes.{codesOf}
 use Rattle.refusals.specs.Totals.{limitRefusal}
 use Rattle.refusals.proofs.totals.Refused.{limit-is, codes-fit, codes-front}
 use Rattle.refusals.specs.declared.first.Sizes.{Sizes}
-use Rattle.refusals.specs.FirstRefusal.{Lent, firstOfSeven}
+use Rattle.refusals.specs.FirstRefusal.{Sized, firstOfSeven}
 use Rattle.transaction.specs.declared.types.Transaction.{Transaction}
 use Rattle.transaction.specs.declared.types.Phase.{Phase}
-use Rattle.transaction.specs.RunPhase.{callOf, Ran}
+use Rattle.transaction.specs.RunPhase.{callOf, answerWithout, Ran}
 use Rattle.transaction.specs.WalkRules.{fresh, Ready, Walked}
 use Rattle.transaction.proofs.Promise.{few-of-seven, seven-first, past-seven, ran-refused, ran-idle}
-use Rattle.transaction.proofs.Promise.{busy, fresh-is, ready-of, ran-walked}
+use Rattle.transaction.proofs.Promise.{busy, fresh-is, ready-of, visited-within, ran-walked}
 use Rattle.transaction.proofs.Promise.{length-data-list, length-journal-list}
 
--- what a call is given, in the code's form
-pub record Given : Type 0 where
-  pub phase : ℕ
-  pub mode : ℕ
-  pub status : ℕ
+-- what the call is lent, in the code's form
+pub record Lent : Type 0 where
+  pub call : CallSettings
   pub rules : List ℕ
   pub actions : List ℕ
   pub markers : List ℕ
   pub text : List ℕ
   pub outcomes : List ℕ
   pub t : Transaction
-  pub ids : List ℕ
-  pub entries : List ℕ
-  pub journal : List ℕ
+  pub lists : LentLists
 
-abbrev pub callAt : Given → Call
-callAt g =
-    callOf (g .phase) (g .mode) (g .status) (g .rules) (g .actions) (g .markers) (g .text) (g .outcomes) (g .t)
-    (g .ids) (g .entries) (g .journal)
+abbrev pub givenIn : Lent → Given
+givenIn g = givenOf (g .call) (g .rules) (g .actions) (markerList (g .markers)) (g .text) (g .outcomes)
 
-module _ (g : Given) where
+abbrev pub callAt : Lent → Call
+callAt g = callOf (givenIn g) (g .t) (g .lists)
+
+module _ (g : Lent) where
   abbrev q : Call
   q = callAt g
 
@@ -60,38 +60,29 @@ module _ (g : Given) where
     targets = g .t .controls .targets;
     «ids_used» = g .t .ids;
     «entries_used» = g .t .entries;
-    ids = length (g .ids);
-    entries = length (g .entries) / 4;
-    journal = length (g .journal) / 2;
+    ids = length (g .lists .ids);
+    entries = length (g .lists .entries) / 4;
+    journal = length (g .lists .journal) / 2;
   }
 
-  pub lent-is : Lent q (g .phase) (g .mode) (g .rules) (g .actions) (g .markers) (g .text) (g .outcomes) sizesOf
-  lent-is = record {
-    phase-is = refl;
-    mode-is = refl;
-    rules-are = refl;
-    actions-are = refl;
-    markers-are = refl;
-    text-is = refl;
-    outcomes-are = refl;
-    sized = record {
-      ranges = ranges-length (g .t .controls);
-      targets = targets-length (g .t .controls);
-      ids-used = refl;
-      entries-used = refl;
-      ids = refl;
-      entries = length-data-list (g .entries);
-      journal = length-journal-list (g .journal);
-    };
+  pub sized-so : Sized (q .transaction) (q .lists) sizesOf
+  sized-so = record {
+    ranges = ranges-length (g .t .controls);
+    targets = targets-length (g .t .controls);
+    ids-used = refl;
+    entries-used = refl;
+    ids = refl;
+    entries = length-data-list (g .lists .entries);
+    journal = length-journal-list (g .lists .journal);
   }
 
   -- that nothing is to do
-  pub idle-is : (set : RuleEngineMode) (b : Bool) → set ≡ modeOfNumber (g .mode)
+  pub idle-is : (set : RuleEngineMode) (b : Bool) → set ≡ modeOfNumber (g .call .mode)
       → b ≡ (g .t .allowed || isStopped (g .t .intervention) || isOff (modeOr set (g .t .controls .settings .mode)) || eqb (length (g .rules) / 5) 0)
-      → nothingToDo q ≡ b
+      → nothingToDo (q .given) (q .transaction) ≡ b
   unfolding controlsOf
   idle-is set b m e =
-      let off : Bool = isOff (modeOr (modeOfNumber (g .mode)) (g .t .controls .settings .mode)) in
+      let off : Bool = isOff (modeOr (modeOfNumber (g .call .mode)) (g .t .controls .settings .mode)) in
       ap (λ (n : ℕ). g .t .allowed || isStopped (g .t .intervention) || off || eqb n 0) (length-rules (g .rules))
       ∙ sym (e ∙ rw m)
 
@@ -126,52 +117,42 @@ module _ (g : Given) where
 
   -- the answers that leave everything as it was lent
   abbrev RanAs : Phase → Type 0
-  RanAs r = Ran q (g .t) (g .entries) (g .journal) r (g .ids) (g .entries) (g .journal)
+  RanAs r = Ran (givenIn g) (g .t) (g .lists) r (g .lists)
 
-  abbrev lent : ℕ → Phase
-  lent k = record { answer = record { answer = k; error = 0; visits = 0 }; transaction = g .t }
+  abbrev asLent : ℕ → Phase
+  asLent k = record { answer = answerWithout k; transaction = g .t }
 
-  module _ (k : ℕ) (r : Phase) (e : r ≡ lent k) where
+  module _ (k : ℕ) (r : Phase) (e : r ≡ asLent k) where
     pub ran-by : k ≡ refusalOf q → (k ≡ 0 → ⊥) → RanAs r
-    ran-by a n =
-        subst (λ (x : Phase). RanAs x) (sym e)
-        (ran-refused (g .phase) (g .mode) (g .status) (g .rules) (g .actions) (g .markers) (g .text) (g .outcomes)
-        (g .t) (g .ids) (g .entries) (g .journal) k a n)
+    ran-by a n = subst (λ (x : Phase). RanAs x) (sym e) (ran-refused (givenIn g) (g .t) (g .lists) k a n)
 
     pub ran-first : k ≡ firstOfSeven q → (k ≡ 0 → ⊥) → RanAs r
     ran-first a n = ran-by (a ∙ sym (seven-first q (λ z. n (a ∙ z)))) n
 
-  pub ran-nothing : (r : Phase) → r ≡ lent 0 → refusalOf q ≡ 0 → nothingToDo q ≡ true → RanAs r
-  ran-nothing r e a h =
-      subst (λ (x : Phase). RanAs x) (sym e)
-      (ran-idle (g .phase) (g .mode) (g .status) (g .rules) (g .actions) (g .markers) (g .text) (g .outcomes)
-      (g .t) (g .ids) (g .entries) (g .journal) a h)
+  pub ran-nothing : (r : Phase) → r ≡ asLent 0 → refusalOf q ≡ 0 → nothingToDo (q .given) (q .transaction) ≡ true → RanAs r
+  ran-nothing r e a h = subst (λ (x : Phase). RanAs x) (sym e) (ran-idle (givenIn g) (g .t) (g .lists) a h)
 
   -- the walk: what it asks, and what is promised of what it leaves
-  abbrev callWith : Transaction → Call
-  callWith x =
-      callOf (g .phase) (g .mode) (g .status) (g .rules) (g .actions) (g .markers) (g .text) (g .outcomes) x
-      (g .ids) (g .entries) (g .journal)
-
-  abbrev new : Transaction
-  new = fresh (g .t .controls) (g .t .ids) (g .t .entries)
-
-  module _ (a : refusalOf q ≡ 0) (h : nothingToDo q ≡ false) where
-    is-new : g .t ≡ new
-    is-new = fresh-is (g .t) (busy q h .unallowed) (busy q h .unstopped)
+  module _ (a : refusalOf q ≡ 0) (h : nothingToDo (q .given) (q .transaction) ≡ false) where
+    is-new : g .t ≡ fresh (g .t)
+    is-new = let b = busy (q .given) (q .transaction) h in fresh-is (g .t) (b .unallowed) (b .unstopped)
 
     pub ready-at : (c : List ℕ) → c ≡ over (replicate 4096 0) (codesOf (g .text) (actionList (g .actions)))
-        → Ready (callWith new) new c (g .ids) (g .entries) (g .journal)
+        → Ready (givenIn g) (fresh (g .t)) c (g .lists)
     ready-at c e =
-        subst (λ (x : Transaction). Ready (callWith x) x c (g .ids) (g .entries) (g .journal)) is-new
-        (ready-of (g .phase) (g .mode) (g .status) (g .rules) (g .actions) (g .markers) (g .text) (g .outcomes)
-        (g .t) (g .ids) (g .entries) (g .journal) a h c e)
+        subst (λ (x : Transaction). Ready (givenIn g) x c (g .lists)) is-new (ready-of (givenIn g) (g .t) (g .lists) a h c e)
 
-    pub ran-at : (r : Phase) (ids entries journal : List ℕ)
-        → Walked (callWith new) new (g .ids) (g .entries) (g .journal) r ids entries journal
-        → Ran q (g .t) (g .entries) (g .journal) r ids entries journal
-    ran-at r ids entries journal w =
-        ran-walked (g .phase) (g .mode) (g .status) (g .rules) (g .actions) (g .markers) (g .text) (g .outcomes)
-        (g .t) (g .ids) (g .entries) (g .journal) a h r ids entries journal
-        (subst (λ (x : Transaction). Walked (callWith x) x (g .ids) (g .entries) (g .journal) r ids entries journal) (sym is-new)
-        w)
+    module _ (r : Phase) (l : LentLists) (w : Walked (givenIn g) (fresh (g .t)) (g .lists) r l) where
+      walked : Walked (givenIn g) (g .t) (g .lists) r l
+      walked = subst (λ (x : Transaction). Walked (givenIn g) x (g .lists) r l) (sym is-new) w
+
+      pub visited-at : 2 * r .answer .visits ≤ length (l .journal)
+      visited-at = visited-within (givenIn g) (g .t) (g .lists) a h r l walked
+
+      pub ran-at : (told : Report) → told ≡ reportOf (journalList (take (2 * r .answer .visits) (l .journal)))
+          → Ran (givenIn g) (g .t) (g .lists)
+          (record {
+            answer = record { answer = r .answer .answer; error = r .answer .error; visits = r .answer .visits; report = told };
+            transaction = r .transaction;
+          }) l
+      ran-at told e = ran-walked (givenIn g) (g .t) (g .lists) a h r l walked told e

@@ -21,12 +21,12 @@ use Rattle.reading.specs.Lists.{keep, over, gather}
 use Rattle.reading.specs.Numbers.{verdictNumber}
 use Rattle.reading.specs.Outcome.{atFreeEnd}
 use Rattle.reading.specs.Reading.{rust}
-use Rattle.reading.specs.Records.{dataWords, journalWords, journalList, matchedIn, ruleList}
+use Rattle.reading.specs.Records.{lent, dataWords, journalWords, journalList, matchedIn, ruleList}
 use Rattle.reading.specs.Controls.{isOff, isOn}
 use Rattle.reading.specs.Walk as defined
 use Rattle.reading.specs.Walk.{givesAllow, isError}
 use Rattle.reading.specs.Controls as plain
-use Rattle.reading.specs.Call.{Call, ruleCount, modeUnder, isLink}
+use Rattle.reading.specs.Call.{Given, ruleCount, modeUnder, isLink}
 use Rattle.reading.specs.Units.{unitIds, unitData, unitControls, unitFlow, unitDisruptive, unitIntervention, isAllow}
 use Rattle.reading.specs.Units.{isStopping}
 use Rattle.reading.specs.Walk.{Visit, isLast, entryOf, journalOf, idsOf, dataOf, controlsAfter, walk, verdictAt, visitAt}
@@ -82,7 +82,7 @@ take-none zero = refl
 take-none (suc n) = refl
 
 -- what a visit gives: what its unit does, if it closes one
-pub record Gave (q : Call) (closes : Bool) (unit : List ℕ) (past : ℕ) (ids entries : List ℕ) (u : UnitOutcome) (ids′ entries′ : List ℕ)
+pub record Gave (q : Given) (closes : Bool) (unit : List ℕ) (past : ℕ) (ids entries : List ℕ) (u : UnitOutcome) (ids′ entries′ : List ℕ)
     : Type 0 where
   pub id-count : u .ids ≡ length (take (length ids) (keep closes (unitIds q unit)))
   pub ids-are : ids′ ≡ over ids (take (length ids) (keep closes (unitIds q unit)))
@@ -91,7 +91,7 @@ pub record Gave (q : Call) (closes : Bool) (unit : List ℕ) (past : ℕ) (ids e
   pub next-is : u .next ≡ cond closes (min (afterFlow q past (unitFlow q unit)) (ruleCount q)) past
   pub disruptive-is : u .disruptive ≡ cond closes (unitDisruptive q unit) DisruptiveOutcome.Nothing
 
-gave-unit : (q : Call) (closes : Bool) (unit : List ℕ) (past : ℕ) (ids entries : List ℕ) (u : UnitOutcome) (ids′ entries′ : List ℕ)
+gave-unit : (q : Given) (closes : Bool) (unit : List ℕ) (past : ℕ) (ids entries : List ℕ) (u : UnitOutcome) (ids′ entries′ : List ℕ)
     → closes ≡ true → Wrote q unit past ids entries u ids′ entries′ → Gave q closes unit past ids entries u ids′ entries′
 gave-unit q closes unit past ids entries u ids′ entries′ e w = record {
   id-count = rw e (w .id-count);
@@ -103,7 +103,7 @@ gave-unit q closes unit past ids entries u ids′ entries′ e w = record {
 }
 
 -- a unit lists no more than there is room for
-pub wrote-few : (q : Call) (unit : List ℕ) (past : ℕ) (ids entries : List ℕ) (u : UnitOutcome) (ids′ entries′ : List ℕ)
+pub wrote-few : (q : Given) (unit : List ℕ) (past : ℕ) (ids entries : List ℕ) (u : UnitOutcome) (ids′ entries′ : List ℕ)
     → Wrote q unit past ids entries u ids′ entries′ → (u .ids ≤ length ids) × (4 * u .entries ≤ length entries)
 wrote-few q unit past ids entries u ids′ entries′ w = (
   omega (arith, w .id-count, length-take (length ids) (unitIds q unit)),
@@ -114,7 +114,7 @@ wrote-few q unit past ids entries u ids′ entries′ w = (
 abbrev nothing : ℕ → UnitOutcome
 nothing past = record { ids = 0; entries = 0; next = past; disruptive = DisruptiveOutcome.Nothing }
 
-gave-none : (q : Call) (closes : Bool) (unit : List ℕ) (past : ℕ) (ids entries : List ℕ) → closes ≡ false
+gave-none : (q : Given) (closes : Bool) (unit : List ℕ) (past : ℕ) (ids entries : List ℕ) → closes ≡ false
     → Gave q closes unit past ids entries (nothing past) ids entries
 gave-none q closes unit past ids entries e = record {
   id-count = rw (e, take-none {A = ℕ} (length ids));
@@ -159,13 +159,13 @@ no-index i k false false = refl
 
 -- what is known where a turn's rule has been visited: the call, how far the walk was, and what was found
 pub record Turning : Type 0 where
-  pub q : Call
+  pub q : Given
   pub t : Transaction
   pub codes : List ℕ
   pub ids₀ : List ℕ
   pub entries₀ : List ℕ
   pub journal₀ : List ℕ
-  pub ready : Ready q t codes ids₀ entries₀ journal₀
+  pub ready : Ready q t codes (lent ids₀ entries₀ journal₀)
   pub reading : q .reading ≡ rust
   pub ids : List ℕ
   pub entries : List ℕ
@@ -183,7 +183,7 @@ pub record Turning : Type 0 where
   pub w-is : w ≡ foundAt (q .rules) s visits found
 
 module _ (turn : Turning) where
-  abbrev q : Call
+  abbrev q : Given
   q = turn .q
 
   abbrev t : Transaction
@@ -201,7 +201,7 @@ module _ (turn : Turning) where
   abbrev journal₀ : List ℕ
   journal₀ = turn .journal₀
 
-  abbrev ready : Ready q t codes ids₀ entries₀ journal₀
+  abbrev ready : Ready q t codes (lent ids₀ entries₀ journal₀)
   ready = turn .ready
 
   abbrev reading : q .reading ≡ rust
@@ -261,7 +261,7 @@ module _ (turn : Turning) where
   abbrev tail : List Visit
   tail = keep (not (isLast (v .ending))) (walk (ruleCount q - (visits + 1)) q (v .after))
 
-  step : visitsFrom q ≡ so .done ++ (v ∷ tail)
+  step : visitsFrom q t ≡ so .done ++ (v ∷ tail)
   step =
       let n : ruleCount q - visits ≡ suc (ruleCount q - (visits + 1)) = omega (arith, so .ahead) in
       so .whole
@@ -272,9 +272,9 @@ module _ (turn : Turning) where
   done′ = so .done ++ (v ∷ [])
 
   -- the controls after the visit are no more than those at the end
-  grown : Grown (v .after .controls) (controlsAfter (controlsOf (t .controls)) (visitsFrom q))
+  grown : Grown (v .after .controls) (controlsAfter (controlsOf (t .controls)) (visitsFrom q t))
   grown =
-      let z : controlsAfter (controlsOf (t .controls)) (visitsFrom q) ≡ controlsAfter (v .after .controls) tail =
+      let z : controlsAfter (controlsOf (t .controls)) (visitsFrom q t) ≡ controlsAfter (v .after .controls) tail =
       ap (controlsAfter (controlsOf (t .controls))) step ∙ controls-append (controlsOf (t .controls)) (so .done) (v ∷ tail) in
       rw z (kept-grows (v .after .controls) (not (isLast (v .ending))) (walk (ruleCount q - (visits + 1)) q (v .after))
       (walk-grows (ruleCount q - (visits + 1)) q (v .after)))
@@ -526,7 +526,7 @@ module _ (turn : Turning) where
           }
 
       -- the lists keep their lengths
-      whole-now : visitsFrom q ≡ done′ ++ tail
+      whole-now : visitsFrom q t ≡ done′ ++ tail
       whole-now = step ∙ sym (append-assoc (so .done) (v ∷ []) tail)
 
       ids-kept : length ids′ ≡ length ids₀
@@ -610,10 +610,10 @@ module _ (turn : Turning) where
         sofar-last : (last : ℕ) → cond (isErrs e) last 0 ≡ cond (isErrs e) (s .next) 0
             → (stop : OptionIntervention) → stop ≡ interventionAtEnd e (unitIntervention q part)
             → (not (isGoing e) || isOff (modeUnder q (controlsOf c′))) ≡ true
-            → Walked q t ids₀ entries₀ journal₀
-            (endedBy e last (visits + 1) (listed + u .ids) (written + u .entries) stop c′) ids′ entries′ journal′
+            → Walked q t (lent ids₀ entries₀ journal₀)
+            (endedBy e last (visits + 1) (listed + u .ids) (written + u .entries) stop c′) (lent ids′ entries′ journal′)
         sofar-last last last-is-so stop stop-is h =
-            let d : visitsFrom q ≡ done′ =
+            let d : visitsFrom q t ≡ done′ =
             step ∙ ap (λ (l : List Visit). so .done ++ (v ∷ l))
             (tail-none (not (isGoing e)) (isOff (modeUnder q (controlsOf c′))) refl refl h) in
             let errs : isErrs e ≡ isError (v .ending) = ap isErrs (sym kind-is) ∙ sym (error-kind (v .ending)) in
@@ -732,8 +732,8 @@ module _ (turn : Turning) where
 
     -- A RULE ERROR
     pub sofar-error : visit.isError found ≡ true
-        → Walked q t ids₀ entries₀ journal₀ (endedBy Ending.Errs (s .next) (visits + 1) listed written OptionIntervention.None c) ids
-        entries journal′
+        → Walked q t (lent ids₀ entries₀ journal₀) (endedBy Ending.Errs (s .next) (visits + 1) listed written OptionIntervention.None c)
+        (lent ids entries journal′)
     sofar-error h =
         rw (take-append-drop listed ids, take-append-drop (4 * written) entries, add-zero listed, add-zero written) at
         (sofar-last (nothing (w .after .next)) (drop listed ids) (drop (4 * written) entries) (gave-nothing unclosed) c (controls-same unclosed)
@@ -814,17 +814,17 @@ module _ (turn : Turning) where
                 (fewer-left u (x .free-ids) (x .free-entries) gave n h)
 
           pub walked-closed : (end : End) → r ≡ AfterUnit.Ends end
-              → Walked q t ids₀ entries₀ journal₀
+              → Walked q t (lent ids₀ entries₀ journal₀)
               (endedBy (end .ending) (end .at .state .next) (end .at .visits) (end .at .ids) (end .at .entries) (end .stop)
-              (structOf (end .at .counts) starts₁ ends₁ phases₁ positions₁)) ids₁ entries₁ journal′
+              (structOf (end .at .counts) starts₁ ends₁ phases₁ positions₁)) (lent ids₁ entries₁ journal′)
           walked-closed end ends-so =
               let l = left-end (not (isGoing e) || isOff mode) e (movedBy at u (x .counts)) (interventionAtEnd e (unitIntervention q part)) end
               (sym (x .left-is) ∙ ends-so) in
               rw (x .ids-are, x .entries-are)
-              (subst (λ (y : End). Walked q t ids₀ entries₀ journal₀
+              (subst (λ (y : End). Walked q t (lent ids₀ entries₀ journal₀)
               (endedBy (y .ending) (y .at .state .next) (y .at .visits) (y .at .ids) (y .at .entries) (y .stop)
-              (structOf (y .at .counts) starts₁ ends₁ phases₁ positions₁)) (take listed ids ++ x .free-ids)
-              (take (4 * written) entries ++ x .free-entries) journal′) (l .1)
+              (structOf (y .at .counts) starts₁ ends₁ phases₁ positions₁)) (lent (take listed ids ++ x .free-ids)
+              (take (4 * written) entries ++ x .free-entries) journal′)) (l .1)
               (sofar-last u (x .free-ids) (x .free-entries) gave c₁ became-unit e end-now (u .next)
               (no-index (u .next) (s .next) (isAllow (u .disruptive)) (isStopping (u .disruptive) && isOn mode))
               (interventionAtEnd e (unitIntervention q part)) refl (l .0)))
@@ -837,7 +837,7 @@ pub past-rules : (rules : List ℕ) (i : ℕ) → length rules / 5 ≤ i → len
 past-rules rules i h = omega (arith, length-rules rules)
 
 -- room in the journal for the visit to come
-pub journal-ahead : (q : Call) (t : Transaction) (codes ids₀ entries₀ journal₀ : List ℕ) → Ready q t codes ids₀ entries₀ journal₀
+pub journal-ahead : (q : Given) (t : Transaction) (codes ids₀ entries₀ journal₀ : List ℕ) → Ready q t codes (lent ids₀ entries₀ journal₀)
     → q .reading ≡ rust → (ids entries journal : List ℕ) (c : Controls) (s : State) (visits listed written : ℕ)
     → Sofar q t ids₀ entries₀ journal₀ ids entries journal c s visits listed written → s .next < ruleCount q
     → 2 * visits + 2 ≤ length journal

@@ -10,7 +10,7 @@ use Rattle.reading.specs.declared.JournalEntry.{JournalEntry}
 use Rattle.reading.specs.declared.Verdict.{Verdict}
 use Rattle.reading.specs.Lists.{keep, gather}
 use Rattle.reading.specs.Controls.{Controls, isOff}
-use Rattle.reading.specs.Call.{Call, ruleCount, modeUnder, isLink}
+use Rattle.reading.specs.Call.{Given, ruleCount, modeUnder, isLink}
 use Rattle.reading.specs.Units.{unitIds, unitData}
 use Rattle.reading.specs.Walk.{State, Visit, Ending, goesOn, allows, errs, stops, isLast, visitBy, visitAt, verdictAt, isVisited}
 use Rattle.reading.specs.Walk.{walk, entryOf, journalOf, closedIn, idsOf, dataOf, controlsAfter, givesAllow, allowedBy}
@@ -21,15 +21,15 @@ use Rattle.apply.proofs.run.Fits.{grows}
 
 -- TURNS
 
-visited : (q : Call) (st : State) → st .next < ruleCount q → isOff (modeUnder q (st .controls)) ≡ false → isVisited q st ≡ true
+visited : (q : Given) (st : State) → st .next < ruleCount q → isOff (modeUnder q (st .controls)) ≡ false → isVisited q st ≡ true
 visited q st h on = rw (lt-ltb (st .next) (ruleCount q) h, on)
 
-pub walk-step : (k : ℕ) (q : Call) (st : State) → st .next < ruleCount q → isOff (modeUnder q (st .controls)) ≡ false
+pub walk-step : (k : ℕ) (q : Given) (st : State) → st .next < ruleCount q → isOff (modeUnder q (st .controls)) ≡ false
     → walk (suc k) q st ≡ visitAt q st ∷ keep (not (isLast (visitAt q st .ending))) (walk k q (visitAt q st .after))
 unfolding walk
 walk-step k q st h on = rw (visited q st h on)
 
-pub walk-end : (k : ℕ) (q : Call) (st : State) → ruleCount q ≤ st .next → walk k q st ≡ []
+pub walk-end : (k : ℕ) (q : Given) (st : State) → ruleCount q ≤ st .next → walk k q st ≡ []
 unfolding walk
 walk-end zero q st h = refl
 walk-end (suc k) q st h = rw (le-ltb (st .next) (ruleCount q) h)
@@ -38,13 +38,13 @@ not-visited : (b : Bool) → (b && false) ≡ false
 not-visited true = refl
 not-visited false = refl
 
-pub walk-off : (k : ℕ) (q : Call) (st : State) → isOff (modeUnder q (st .controls)) ≡ true → walk k q st ≡ []
+pub walk-off : (k : ℕ) (q : Given) (st : State) → isOff (modeUnder q (st .controls)) ≡ true → walk k q st ≡ []
 unfolding walk
 walk-off zero q st h = refl
 walk-off (suc k) q st h = rw (h, not-visited (ltb (st .next) (ruleCount q)))
 
 -- it does not matter how far after the last rule the walk stands
-pub walk-clip : (k : ℕ) (q : Call) (next : ℕ) (ms : List ℕ) (c : Controls)
+pub walk-clip : (k : ℕ) (q : Given) (next : ℕ) (ms : List ℕ) (c : Controls)
     → walk k q (record { next = min next (ruleCount q); members = ms; controls = c }) ≡ walk k q
     (record { next = next; members = ms; controls = c })
 walk-clip k q next ms c = go (ltb next (ruleCount q)) refl
@@ -73,10 +73,10 @@ gather-append : {A B : Type 0} (give : A → List B) (xs ys : List A) → gather
 gather-append give [] ys = refl
 gather-append give (x ∷ xs) ys = rw (gather-append give xs ys, append-assoc (give x) (gather give xs) (gather give ys))
 
-pub ids-append : (q : Call) (l m : List Visit) → idsOf q (l ++ m) ≡ idsOf q l ++ idsOf q m
+pub ids-append : (q : Given) (l m : List Visit) → idsOf q (l ++ m) ≡ idsOf q l ++ idsOf q m
 ids-append q l m = rw (closed-append l m, gather-append (unitIds q) (closedIn l) (closedIn m))
 
-pub data-append : (q : Call) (l m : List Visit) → dataOf q (l ++ m) ≡ dataOf q l ++ dataOf q m
+pub data-append : (q : Given) (l m : List Visit) → dataOf q (l ++ m) ≡ dataOf q l ++ dataOf q m
 data-append q l m = rw (closed-append l m, gather-append (unitData q) (closedIn l) (closedIn m))
 
 pub controls-append : (c : Controls) (l m : List Visit) → controlsAfter c (l ++ m) ≡ controlsAfter (controlsAfter c l) m
@@ -126,7 +126,7 @@ intervention-after (v ∷ l) m g = not-last (v .ending) (interventionBy (l ++ m)
 
 -- THE CONTROLS ONLY GROW
 
-pub visit-grows : (q : Call) (st : State) (v : Verdict) (l : Bool) → Grown (st .controls) (visitBy q st v l .after .controls)
+pub visit-grows : (q : Given) (st : State) (v : Verdict) (l : Bool) → Grown (st .controls) (visitBy q st v l .after .controls)
 visit-grows q st Verdict.Missed l = grown-same (st .controls)
 visit-grows q st Verdict.Matched true = grown-same (st .controls)
 visit-grows q st Verdict.Matched false = grows q (st .members ++ (st .next ∷ [])) (st .controls)
@@ -138,7 +138,7 @@ pub kept-grows : (c : Controls) (b : Bool) (l : List Visit) → Grown c (control
 kept-grows c true l g = g
 kept-grows c false l g = grown-same c
 
-pub walk-grows : (k : ℕ) (q : Call) (st : State) → Grown (st .controls) (controlsAfter (st .controls) (walk k q st))
+pub walk-grows : (k : ℕ) (q : Given) (st : State) → Grown (st .controls) (controlsAfter (st .controls) (walk k q st))
 unfolding walk visitAt
 walk-grows zero q st = grown-same (st .controls)
 walk-grows (suc k) q st =

@@ -7,11 +7,12 @@ use lib.ListN.{length, take, drop, replicate}
 use Rattle.reading.specs.declared.OptionIntervention.{OptionIntervention}
 use Rattle.reading.specs.declared.RuleEngineMode.{RuleEngineMode}
 use Rattle.reading.specs.Lists.{over}
-use Rattle.reading.specs.Records.{dataWords, journalWords, journalList, matchedIn}
+use Rattle.reading.specs.Records.{LentLists, dataWords, journalWords, journalList, matchedIn}
 use Rattle.reading.specs.Controls.{isOff}
-use Rattle.reading.specs.Call.{Call, ruleCount, modeUnder}
+use Rattle.reading.specs.Call.{Given, ruleCount, modeUnder}
 use Rattle.reading.specs.Units.{unitIntervention}
 use Rattle.reading.specs.Walk.{Visit, walk, start, journalOf, idsOf, dataOf, controlsAfter, allowedBy, interventionBy, answerBy, errorIndexBy}
+use Rattle.reading.specs.Report.{noReport}
 use Rattle.reading.specs.Outcome.{atFreeEnd}
 use Rattle.control.specs.declared.state.Controls.{Controls}
 use Rattle.control.specs.ControlsStruct.{controlsOf, Became}
@@ -29,30 +30,30 @@ use Rattle.transaction.specs.declared.types.Transaction.{Transaction}
 use Rattle.transaction.specs.declared.types.Phase.{Phase}
 use Rattle.transaction.specs.declared.types.WalkState.{WalkState}
 use Rattle.transaction.specs.declared.types.AfterUnit.{AfterUnit}
+use Rattle.transaction.specs.RunPhase.{transactionOf}
 
 -- a transaction without allow and intervention
-abbrev pub fresh : Controls → ℕ → ℕ → Transaction
-fresh c ids entries = record { controls = c; allowed = false; intervention = OptionIntervention.None; ids = ids; entries = entries }
+abbrev pub fresh : Transaction → Transaction
+fresh t = record { controls = t .controls; allowed = false; intervention = OptionIntervention.None; ids = t .ids; entries = t .entries }
 
 -- all visits from the first rule on
-abbrev pub visitsFrom : Call → List Visit
-visitsFrom q = walk (ruleCount q) q (start q)
+abbrev pub visitsFrom : Given → Transaction → List Visit
+visitsFrom g t = walk (ruleCount g) g (start (transactionOf t))
 
--- an accepted call whose mode is not Off: what the walk needs of it. `codes` are the actions' codes, and the last four lists
--- are the numbers that were lent.
-pub record Ready (q : Call) (t : Transaction) (codes ids entries journal : List ℕ) : Type 0 where
-  pub outcomes : length (q .outcomes) ≡ ruleCount q
-  pub actions : length (q .actions) ≤ 4096
-  pub digested : codes ≡ over (replicate 4096 0) (codesOf (q .text) (q .actions))
-  pub ids-room : t .ids + ruleCount q ≤ length ids
-  pub entries-room : 4 * (t .entries + ruleCount q) ≤ length entries
-  pub journal-room : 2 * ruleCount q ≤ length journal
-  pub visits-few : length (visitsFrom q) ≤ ruleCount q
-  pub ids-few : length (idsOf q (visitsFrom q)) ≤ ruleCount q
-  pub data-few : length (dataOf q (visitsFrom q)) ≤ ruleCount q
-  pub ranges : length (controlsAfter (controlsOf (t .controls)) (visitsFrom q) .ranges) ≤ 256
-  pub targets : length (controlsAfter (controlsOf (t .controls)) (visitsFrom q) .targets) ≤ 64
-  pub not-off : isOff (modeUnder q (controlsOf (t .controls))) ≡ false
+-- an accepted call with something to do: what the walk needs of it. `codes` are the actions' codes.
+pub record Ready (g : Given) (t : Transaction) (codes : List ℕ) (l : LentLists) : Type 0 where
+  pub outcomes : length (g .outcomes) ≡ ruleCount g
+  pub actions : length (g .actions) ≤ 4096
+  pub digested : codes ≡ over (replicate 4096 0) (codesOf (g .text) (g .actions))
+  pub ids-room : t .ids + ruleCount g ≤ length (l .ids)
+  pub entries-room : 4 * (t .entries + ruleCount g) ≤ length (l .entries)
+  pub journal-room : 2 * ruleCount g ≤ length (l .journal)
+  pub visits-few : length (visitsFrom g t) ≤ ruleCount g
+  pub ids-few : length (idsOf g (visitsFrom g t)) ≤ ruleCount g
+  pub data-few : length (dataOf g (visitsFrom g t)) ≤ ruleCount g
+  pub ranges : length (controlsAfter (controlsOf (t .controls)) (visitsFrom g t) .ranges) ≤ 256
+  pub targets : length (controlsAfter (controlsOf (t .controls)) (visitsFrom g t) .targets) ≤ 64
+  pub not-off : isOff (modeUnder g (controlsOf (t .controls))) ≡ false
 
 -- whether the walk goes on, unless the mode is Off
 abbrev pub isGoing : Ending → Bool
@@ -75,35 +76,35 @@ isAllows Ending.Allows = true
 isAllows Ending.Errs = false
 isAllows Ending.Stops = false
 
--- the answer of a walk that ended so at the rule `last`
+-- the answer of a walk that ended so at the rule `last`, but for what is told besides
 abbrev pub endedBy : Ending → ℕ → ℕ → ℕ → ℕ → OptionIntervention → Controls → Phase
 endedBy e last visits ids entries stop c = record {
-  answer = record { answer = cond (isErrs e) 10 0; error = cond (isErrs e) last 0; visits = visits };
+  answer = record { answer = cond (isErrs e) 10 0; error = cond (isErrs e) last 0; visits = visits; report = noReport };
   transaction = record { controls = c; allowed = isAllows e; intervention = stop; ids = ids; entries = entries };
 }
 
 -- of a transaction without allow and intervention
-pub record Walked (q : Call) (t : Transaction) (ids entries journal : List ℕ) (r : Phase) (ids′ entries′ journal′ : List ℕ) : Type 0 where
-  pub answer : r .answer .answer ≡ answerBy (visitsFrom q)
-  pub error : r .answer .error ≡ errorIndexBy (visitsFrom q)
-  pub visits : r .answer .visits ≡ length (visitsFrom q)
-  pub journal-numbers : journal′ ≡ over journal (journalWords (journalOf (visitsFrom q)))
-  pub ids-listed : ids′ ≡ atFreeEnd (t .ids) ids (idsOf q (visitsFrom q))
-  pub data-numbers : entries′ ≡ atFreeEnd (4 * t .entries) entries (dataWords (dataOf q (visitsFrom q)))
-  pub ids-used : r .transaction .ids ≡ t .ids + length (idsOf q (visitsFrom q))
-  pub data-used : r .transaction .entries ≡ t .entries + length (dataOf q (visitsFrom q))
-  pub controls : Became (t .controls) (r .transaction .controls) (controlsAfter (controlsOf (t .controls)) (visitsFrom q))
-  pub allowed : r .transaction .allowed ≡ allowedBy (visitsFrom q)
-  pub intervention : r .transaction .intervention ≡ interventionBy (visitsFrom q)
+pub record Walked (g : Given) (t : Transaction) (l : LentLists) (r : Phase) (l′ : LentLists) : Type 0 where
+  pub answer : r .answer .answer ≡ answerBy (visitsFrom g t)
+  pub error : r .answer .error ≡ errorIndexBy (visitsFrom g t)
+  pub visits : r .answer .visits ≡ length (visitsFrom g t)
+  pub journal-numbers : l′ .journal ≡ over (l .journal) (journalWords (journalOf (visitsFrom g t)))
+  pub ids-listed : l′ .ids ≡ atFreeEnd (t .ids) (l .ids) (idsOf g (visitsFrom g t))
+  pub data-numbers : l′ .entries ≡ atFreeEnd (4 * t .entries) (l .entries) (dataWords (dataOf g (visitsFrom g t)))
+  pub ids-used : r .transaction .ids ≡ t .ids + length (idsOf g (visitsFrom g t))
+  pub data-used : r .transaction .entries ≡ t .entries + length (dataOf g (visitsFrom g t))
+  pub controls : Became (t .controls) (r .transaction .controls) (controlsAfter (controlsOf (t .controls)) (visitsFrom g t))
+  pub allowed : r .transaction .allowed ≡ allowedBy (visitsFrom g t)
+  pub intervention : r .transaction .intervention ≡ interventionBy (visitsFrom g t)
 
--- how far the walk is before the first rule, with so many ids and data entries in use
-abbrev pub startOf : Controls → ℕ → ℕ → WalkState
-startOf c ids entries = record {
+-- how far the walk is before the first rule
+abbrev pub startOf : Transaction → WalkState
+startOf t = record {
   state = record { next = 0; chained = false; first = 0 };
   visits = 0;
-  ids = ids;
-  entries = entries;
-  counts = record { settings = c .settings; ranges = c .ranges; targets = c .targets };
+  ids = t .ids;
+  entries = t .entries;
+  counts = record { settings = t .controls .settings; ranges = t .controls .ranges; targets = t .controls .targets };
 }
 
 -- A CLOSED UNIT. `at` is how far the walk is with the visit of the closing rule, before the unit's flow.
@@ -134,24 +135,24 @@ abbrev pub leftBy : Bool → Ending → WalkState → OptionIntervention → Aft
 leftBy last e at stop = cond last (AfterUnit.Ends (record { ending = e; at = at; stop = stop })) (AfterUnit.GoesOn at)
 
 -- the same by the mode after the unit's controls, the unit's last disruptive action and its intervention
-abbrev pub leftUnder : RuleEngineMode → Call → List ℕ → WalkState → UnitOutcome → ControlCounts → AfterUnit
-leftUnder mode q unit at gave counts =
+abbrev pub leftUnder : RuleEngineMode → Given → List ℕ → WalkState → UnitOutcome → ControlCounts → AfterUnit
+leftUnder mode g unit at gave counts =
     let e = endBy (gave .disruptive) mode in
-    leftBy (not (isGoing e) || isOff mode) e (movedBy at gave counts) (interventionAtEnd e (unitIntervention q unit))
+    leftBy (not (isGoing e) || isOff mode) e (movedBy at gave counts) (interventionAtEnd e (unitIntervention g unit))
 
 -- what closing a unit leaves: `gave` is what the unit gave, and `held` the settings and counts after its controls
-pub record UnitClosed (q : Call) (codes : List ℕ) (at : WalkState) (ids entries journal starts ends phases positions : List ℕ) (r : AfterUnit)
+pub record UnitClosed (g : Given) (codes : List ℕ) (at : WalkState) (ids entries journal starts ends phases positions : List ℕ) (r : AfterUnit)
     (ids′ entries′ starts′ ends′ phases′ positions′ : List ℕ) : Type 0 where
   pub gave : UnitOutcome
   pub counts : ControlCounts
   -- the free ends of the two lists after it
   pub free-ids : List ℕ
   pub free-entries : List ℕ
-  pub wrote : Wrote q (membersAt at journal) (at .state .next) (drop (at .ids) ids) (drop (4 * at .entries) entries) gave free-ids
+  pub wrote : Wrote g (membersAt at journal) (at .state .next) (drop (at .ids) ids) (drop (4 * at .entries) entries) gave free-ids
       free-entries
   pub ids-are : ids′ ≡ take (at .ids) ids ++ free-ids
   pub entries-are : entries′ ≡ take (4 * at .entries) entries ++ free-entries
   pub turned : Turned (at .counts) starts ends phases positions counts starts′ ends′ phases′ positions′
-      (unitByCodes (record { phase = q .phase; text = q .text; actions = q .actions }) codes (q .rules) (membersAt at journal)
+      (unitByCodes (record { phase = g .settings .phase; text = g .text; actions = g .actions }) codes (g .rules) (membersAt at journal)
       (controlsOf (structOf (at .counts) starts ends phases positions)))
-  pub left-is : r ≡ leftUnder (modeUnder q (controlsOf (structOf counts starts′ ends′ phases′ positions′))) q (membersAt at journal) at gave counts
+  pub left-is : r ≡ leftUnder (modeUnder g (controlsOf (structOf counts starts′ ends′ phases′ positions′))) g (membersAt at journal) at gave counts

@@ -12,6 +12,7 @@ use intervention::decide::Ending;
 use reading::OptionIntervention;
 use reading::RuleEngineMode;
 use reading::limits;
+use report::verdicts;
 use unit::close::UnitOutcome;
 ghost use mathlib.Core.Path.{_≡_};
 ghost use mathlib.Core.Bool.{_||_, not, cond};
@@ -20,6 +21,7 @@ ghost use Rattle.reading.specs.Controls.{isOff, modeOr};
 ghost use Rattle.reading.specs.Walk.{isStopped};
 ghost use Rattle.apply.specs.Append.{structOf};
 ghost use Rattle.intervention.specs.EndOfVisit.{endBy};
+ghost use Rattle.transaction.specs.RunPhase.{answerWithout};
 ghost use Rattle.transaction.specs.WalkRules.{isGoing, isErrs, isAllows, endedBy};
 
 // The mode under the settings.
@@ -96,7 +98,20 @@ fn gives_allow(ending: Ending) -> bool
     }
 }
 
-// The answer of a walk that ended so, the controls from their parts. After an error the walk stands at the rule that had it. The
+// The answer of a call without a visit, refused or with nothing to do.
+pub fn unvisited(answer: u64) -> Answer
+    ensures { λ r. ⌜ r ≡ answerWithout answer ⌝ }
+{
+    let report = verdicts::no_report();
+    Answer {
+        answer,
+        error: 0,
+        visits: 0,
+        report,
+    }
+}
+
+// The answer of a walk that ended so, but for what is told besides, the controls from their parts. After an error the walk stands at the rule that had it. The
 // transaction had no allow and no intervention.
 pub fn ended(
     end: End,
@@ -110,10 +125,12 @@ pub fn ended(
 {
     let ending = end.ending;
     let at = end.at;
+    let report = verdicts::no_report();
     let answer = Answer {
         answer: answer_of(ending),
         error: error_of(ending, at.state.next),
         visits: at.visits as u64,
+        report,
     };
     let allowed = gives_allow(ending);
     let h = at.counts;

@@ -1,30 +1,27 @@
 // The phase call (`Transaction::run_phase` in engine/transaction.rs), by value: transaction in, transaction and answer out.
 use crate::outcome;
-use crate::types::Answer;
-use crate::types::CallSettings;
 use crate::types::Phase;
 use crate::types::Transaction;
 use crate::walk;
 use apply::codes;
 use control::fields;
+use reading::CallSettings;
 use reading::limits;
 use reading::widths;
 use refusals::first;
 use refusals::first::Sizes;
 use refusals::totals;
+use report::verdicts;
 ghost use mathlib.Core.Path.{_≡_};
 ghost use Prim.Native.Nat.{_/_};
-ghost use Rattle.transaction.specs.RunPhase.{callOf, Ran};
+ghost use Rattle.reading.specs.Records.{markerList, givenOf, lent};
+ghost use Rattle.transaction.specs.RunPhase.{answerWithout, Ran};
 
 // An answer that leaves the transaction as it was.
 fn as_lent(answer: u64, t: Transaction) -> Phase
-    ensures { λ r. ⌜ r ≡ record { answer = record { answer = answer; error = 0; visits = 0 }; transaction = t } ⌝ }
+    ensures { λ r. ⌜ r ≡ record { answer = answerWithout answer; transaction = t } ⌝ }
 {
-    let answer = Answer {
-        answer,
-        error: 0,
-        visits: 0,
-    };
+    let answer = outcome::unvisited(answer);
     Phase {
         answer,
         transaction: t,
@@ -58,9 +55,7 @@ fn sizes_of(t: Transaction, ids: usize, entries: usize, journal: usize) -> Sizes
 // written at the free ends of their lists, the journal from its start.
 pub fn run_phase(
     t: Transaction,
-    phase: u64,
-    mode: u64,
-    default_status: u64,
+    call: CallSettings,
     rules: &[u64],
     actions: &[u64],
     markers: &[u64],
@@ -70,13 +65,13 @@ pub fn run_phase(
     entries: &mut [u64],
     journal: &mut [u64],
 ) -> Phase
-    ensures { λ r. ⌜ Ran (callOf phase mode «default_status» (now (rules .entry)) (now (actions .entry)) (now (markers .entry)) (now (text .entry)) (now (outcomes .entry)) t (now (ids .entry)) (now (entries .entry)) (now (journal .entry)))
-        t (now (entries .entry)) (now (journal .entry)) r (now (ids .exit)) (now (entries .exit)) (now (journal .exit)) ⌝ }
+    ensures { λ r. ⌜ Ran (givenOf call (now (rules .entry)) (now (actions .entry)) (markerList (now (markers .entry))) (now (text .entry)) (now (outcomes .entry))) t
+        (lent (now (ids .entry)) (now (entries .entry)) (now (journal .entry))) r (lent (now (ids .exit)) (now (entries .exit)) (now (journal .exit))) ⌝ }
 {
     let ranges = t.controls.ranges;
     let targets = t.controls.targets;
     let sizes = sizes_of(t, ids.len(), entries.len(), journal.len());
-    let refusal = first::first_refusal(phase, mode, rules, actions, markers, text, outcomes, sizes);
+    let refusal = first::first_refusal(call, rules, actions, markers, text, outcomes, sizes);
     if refusal != 0 {
         return as_lent(refusal, t);
     }
@@ -89,21 +84,13 @@ pub fn run_phase(
     }
     let settings = t.controls.settings;
     let stop = t.intervention;
-    let ruleset_mode = fields::mode_of_number(mode);
+    let ruleset_mode = fields::mode_of_number(call.mode);
     let n = rules.len() / widths::RULE;
     if outcome::is_idle(t.allowed, stop, ruleset_mode, settings, n) {
         return as_lent(0, t);
     }
-    let call = CallSettings {
-        phase,
-        mode,
-        default_status,
-    };
-    let c = t.controls;
-    walk::walk_rules(
-        c,
-        t.ids,
-        t.entries,
+    let mut p = walk::walk_rules(
+        t,
         call,
         rules,
         actions,
@@ -114,5 +101,11 @@ pub fn run_phase(
         ids,
         entries,
         journal,
-    )
+    );
+    let visited = widths::JOURNAL_ENTRY * p.answer.visits as usize;
+    let mut answer = p.answer;
+    let report = verdicts::count_verdicts(&journal[0..visited]);
+    answer.report = report;
+    p.answer = answer;
+    p
 }

@@ -4,6 +4,7 @@ use apply::append::ControlCounts;
 use control::state::Controls;
 use intervention::decide::Ending;
 use reading::OptionIntervention;
+use reading::Report;
 use unit::visit::State;
 
 // A transaction: the controls, the allowed flag, an intervention or none, and how many matched ids and data entries are in use.
@@ -16,25 +17,19 @@ pub struct Transaction {
 }
 
 // What a phase call answers, the same from the walk to a host: 0, 10, or the number of a refusal; the index of the rule that had
-// the error, with 10; and how many entries the journal holds.
+// the error, with 10; how many entries the journal holds; and what is told besides.
 #[repr(C)]
 pub struct Answer {
     pub answer: u64,
     pub error: u64,
     pub visits: u64,
+    pub report: Report,
 }
 
 // The answer, and the transaction after the call.
 pub struct Phase {
     pub answer: Answer,
     pub transaction: Transaction,
-}
-
-// The numbers that a call is given: the phase, the rule set's mode, and the status of a block.
-pub struct CallSettings {
-    pub phase: u64,
-    pub mode: u64,
-    pub default_status: u64,
 }
 
 // How far a walk is: where it stands, how many rules it has visited, how many matched ids and data entries are in use, and what

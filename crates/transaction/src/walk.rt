@@ -1,16 +1,16 @@
 // The walk over a phase's rules: visit by visit, and what each closed unit gives.
 use crate::outcome;
 use crate::types::AfterUnit;
-use crate::types::CallSettings;
 use crate::types::End;
 use crate::types::Phase;
+use crate::types::Transaction;
 use crate::types::WalkState;
 use apply::append::ControlCounts;
 use apply::run;
 use control::fields;
-use control::state::Controls;
 use intervention::build;
 use intervention::decide::Ending;
+use reading::CallSettings;
 use reading::OptionIntervention;
 use reading::Verdict;
 use reading::limits;
@@ -28,12 +28,11 @@ ghost use lib.ListN.{length, getD};
 ghost use Rattle.reading.specs.Numbers.{verdictNumber, modeOfNumber};
 ghost use Rattle.reading.specs.Controls.{isRemoved, rangeList, modeOr};
 ghost use Rattle.reading.specs.Call.{noRule, recordId};
-ghost use Rattle.reading.specs.Records.{ruleList, journalList, matchedIn};
+ghost use Rattle.reading.specs.Records.{ruleList, markerList, journalList, matchedIn, givenOf, lent};
+ghost use Rattle.reading.specs.declared.Marker.{Marker};
 ghost use Rattle.reading.specs.Walk.{verdictBy};
 ghost use Rattle.reading.specs.Outcome.{atFreeEnd};
-ghost use Rattle.unit.specs.MemberList.{Rest, callWith};
 ghost use Rattle.unit.specs.VisitRule.{foundAt};
-ghost use Rattle.transaction.specs.RunPhase.{callOf};
 ghost use Rattle.transaction.specs.WalkRules.{fresh, Ready, Walked, startOf, Room, leftUnder, UnitClosed};
 
 // Visits the rule that the walk stands at, under the held ranges, and writes it after the journal's entries.
@@ -72,9 +71,9 @@ fn leave_unit(
     actions: &[u64],
 ) -> AfterUnit
     requires { ⌜ (at .ids + u .ids < 2 ^ 64) × (at .entries + u .entries < 2 ^ 64) ⌝ }
-    ensures { λ r. ⌜ ((markers text outcomes : List ℕ) (rest : Rest) → rest .status ≡ call .«default_status»
+    ensures { λ r. ⌜ ((markers : List Marker) (text outcomes : List ℕ)
         → r ≡ leftUnder (modeOr (modeOfNumber (call .mode)) (h .settings .mode))
-        (callWith (call .phase) (now (rules .entry)) (now (actions .entry)) markers text outcomes rest) (matchedIn (journalList (now (members .entry)))) at u h) ⌝ }
+        (givenOf call (now (rules .entry)) (now (actions .entry)) markers text outcomes) (matchedIn (journalList (now (members .entry)))) at u h) ⌝ }
 {
     let ruleset_mode = fields::mode_of_number(call.mode);
     let end = outcome::turn_end(u, ruleset_mode, h);
@@ -92,14 +91,7 @@ fn leave_unit(
     };
     if end.last {
         let ending = end.ending;
-        let stop = build::build_intervention(
-            ending,
-            members,
-            rules,
-            actions,
-            call.phase,
-            call.default_status,
-        );
+        let stop = build::build_intervention(ending, members, rules, actions, call);
         return AfterUnit::Ends(End {
             ending,
             at: moved,
@@ -129,10 +121,9 @@ fn finish_unit(
     positions: &mut [u64; limits::TARGETS],
 ) -> AfterUnit
     requires { ⌜ Room at (now ids) (now entries) (now journal) ⌝ }
-    ensures { λ r. ⌜ ((rest : Rest) → rest .mode ≡ call .mode → rest .status ≡ call .«default_status»
-        → UnitClosed (callWith (call .phase) (now (rules .entry)) (now (actions .entry)) (now (markers .entry)) (now (text .entry)) (now (outcomes .entry)) rest)
+    ensures { λ r. ⌜ UnitClosed (givenOf call (now (rules .entry)) (now (actions .entry)) (markerList (now (markers .entry))) (now (text .entry)) (now (outcomes .entry)))
         (now (codes .entry)) at (now (ids .entry)) (now (entries .entry)) (now (journal .entry)) (now (starts .entry)) (now (ends .entry)) (now (phases .entry)) (now (positions .entry))
-        r (now (ids .exit)) (now (entries .exit)) (now (starts .exit)) (now (ends .exit)) (now (phases .exit)) (now (positions .exit))) ⌝ }
+        r (now (ids .exit)) (now (entries .exit)) (now (starts .exit)) (now (ends .exit)) (now (phases .exit)) (now (positions .exit)) ⌝ }
 {
     let from = widths::JOURNAL_ENTRY * at.state.first;
     let to = widths::JOURNAL_ENTRY * at.visits;
@@ -141,7 +132,7 @@ fn finish_unit(
     let free = widths::DATA_ENTRY * at.entries;
     let u = close::close_unit(
         at.state.next,
-        call.phase,
+        call,
         members,
         rules,
         actions,
@@ -169,10 +160,10 @@ fn finish_unit(
 }
 
 // Before the first rule.
-fn start(c: Controls, ids: usize, entries: usize) -> WalkState
-    ensures { λ r. ⌜ r ≡ startOf c ids entries ⌝ }
+fn start(t: Transaction) -> WalkState
+    ensures { λ r. ⌜ r ≡ startOf t ⌝ }
 {
-    let settings = c.settings;
+    let settings = t.controls.settings;
     WalkState {
         state: State {
             next: 0,
@@ -180,12 +171,12 @@ fn start(c: Controls, ids: usize, entries: usize) -> WalkState
             first: 0,
         },
         visits: 0,
-        ids,
-        entries,
+        ids: t.ids,
+        entries: t.entries,
         counts: ControlCounts {
             settings,
-            ranges: c.ranges,
-            targets: c.targets,
+            ranges: t.controls.ranges,
+            targets: t.controls.targets,
         },
     }
 }
@@ -204,9 +195,7 @@ fn end_at(ending: Ending, at: WalkState) -> End
 // The walk from the first rule on, where nothing stands against it. The controls' arrays are locals, lent where they are read
 // and where a closed unit changes them; the struct is made up again at the end.
 pub fn walk_rules(
-    controls: Controls,
-    ids_before: usize,
-    entries_before: usize,
+    t: Transaction,
     call: CallSettings,
     rules: &[u64],
     actions: &[u64],
@@ -218,15 +207,15 @@ pub fn walk_rules(
     entries: &mut [u64],
     journal: &mut [u64],
 ) -> Phase
-    requires { ⌜ (let t = fresh controls «ids_before» «entries_before» in Ready (callOf (call .phase) (call .mode) (call .«default_status») (now rules) (now actions) (now markers) (now text) (now outcomes) t (now ids) (now entries) (now journal)) t (now codes) (now ids) (now entries) (now journal)) ⌝ }
-    ensures { λ r. ⌜ (let t = fresh controls «ids_before» «entries_before» in Walked (callOf (call .phase) (call .mode) (call .«default_status») (now (rules .entry)) (now (actions .entry)) (now (markers .entry)) (now (text .entry)) (now (outcomes .entry)) t (now (ids .entry)) (now (entries .entry)) (now (journal .entry)))
-        t (now (ids .entry)) (now (entries .entry)) (now (journal .entry)) r (now (ids .exit)) (now (entries .exit)) (now (journal .exit))) ⌝ }
+    requires { ⌜ Ready (givenOf call (now rules) (now actions) (markerList (now markers)) (now text) (now outcomes)) (fresh t) (now codes) (lent (now ids) (now entries) (now journal)) ⌝ }
+    ensures { λ r. ⌜ Walked (givenOf call (now (rules .entry)) (now (actions .entry)) (markerList (now (markers .entry))) (now (text .entry)) (now (outcomes .entry))) (fresh t)
+        (lent (now (ids .entry)) (now (entries .entry)) (now (journal .entry))) r (lent (now (ids .exit)) (now (entries .exit)) (now (journal .exit))) ⌝ }
 {
-    let mut starts = controls.starts;
-    let mut ends = controls.ends;
-    let mut phases = controls.phases;
-    let mut positions = controls.positions;
-    let mut at = start(controls, ids_before, entries_before);
+    let mut starts = t.controls.starts;
+    let mut ends = t.controls.ends;
+    let mut phases = t.controls.phases;
+    let mut positions = t.controls.positions;
+    let mut at = start(t);
     let n = rules.len() / widths::RULE;
     while at.state.next < n {
         let v = visit_next(at, rules, outcomes, &starts, &ends, journal);

@@ -1,40 +1,38 @@
 -- `transaction::run_phase::run_phase` meets its contract.
-use Prim.Native.Nat.{ℕ, _≤_, _/_, _-_}
-use mathlib.Core.Path.{_≡_, sym, subst, _∙_}
+use Prim.Native.Nat.{ℕ, _≤_, _*_, _/_, _-_}
+use mathlib.Core.Path.{_≡_, sym, ap, subst, _∙_}
 use mathlib.Core.List.{List, [], _++_, append-nil}
 use native.Mathlib.Omega.{arith}
 use denote.Ref.{now}
 use lib.ListN.{length, take, drop, replicate}
 use lib.Seq.{take-all}
 use Rattle.reading.specs.Lists.{over}
-use Rattle.reading.specs.Records.{actionList}
+use Rattle.reading.specs.Records.{actionList, journalList, LentLists, lent}
+use Rattle.reading.specs.Report.{reportOf}
 use Rattle.reading.specs.Walk.{nothingToDo}
 use Rattle.reading.specs.Refusals.{refusalOf}
 use Rattle.lists.proofs.RecordLaws.{length-actions}
 use Rattle.apply.specs.Codes.{codesOf}
-use Rattle.refusals.specs.FirstRefusal.{Lent, firstOfSeven}
+use Rattle.refusals.specs.FirstRefusal.{Sized, firstOfSeven}
 use Rattle.transaction.proofs.Promise.{few-of-seven}
-use Rattle.transaction.proofs.Tested.{Given, callAt, lent-is, idle-is, digested, limited}
-use Rattle.transaction.proofs.Tested.{ran-first, ran-by, ran-nothing, ready-at, ran-at}
+use Rattle.transaction.proofs.Tested.{Lent, callAt, sized-so, idle-is, digested, limited}
+use Rattle.transaction.proofs.Tested.{ran-first, ran-by, ran-nothing, ready-at, visited-at, ran-at}
 use borrow.Author.Needs.{needs}
 use Rattle.transaction.proofs.run_phase.run_phase.Statement.{statement}
 use Rattle.transaction.proofs.run_phase.run_phase.Tie as tie
 
-abbrev given : tie.Start → Given
+abbrev given : tie.Start → Lent
 given c =
+    let a = c .args in
     record {
-      phase = c .args .phase;
-      mode = c .args .mode;
-      status = c .args .default-status;
-      rules = now (c .args .rules);
-      actions = now (c .args .actions);
-      markers = now (c .args .markers);
-      text = now (c .args .text);
-      outcomes = now (c .args .outcomes);
-      t = c .args .t;
-      ids = now (c .args .ids);
-      entries = now (c .args .entries);
-      journal = now (c .args .journal);
+      call = a .call;
+      rules = now (a .rules);
+      actions = now (a .actions);
+      markers = now (a .markers);
+      text = now (a .text);
+      outcomes = now (a .outcomes);
+      t = a .t;
+      lists = lent (now (a .ids)) (now (a .entries)) (now (a .journal));
     }
 
 sizes-of-requires : tie.Need-sizes-of-requires
@@ -56,13 +54,13 @@ coded c = c .before .before .before .before
 abbrev past-nine : tie.After-is-idle → tie.Else2
 past-nine c = c .before .before .before
 
-abbrev given-first : tie.After-first-refusal → Given
+abbrev given-first : tie.After-first-refusal → Lent
 given-first c = given (c .before .before .before .before .before .before .before .before .before .before)
 
-abbrev given-coded : tie.After-write-codes → Given
+abbrev given-coded : tie.After-write-codes → Lent
 given-coded c = given-first (past-seven c .before)
 
-abbrev given-idle : tie.After-is-idle → Given
+abbrev given-idle : tie.After-is-idle → Lent
 given-idle c = given-coded (coded (past-nine c .before))
 
 -- the codes as `write_codes` left them
@@ -72,8 +70,8 @@ left c = c .write-codes .last .1 .1 .0
 first : (c : tie.After-first-refusal) → c .first-refusal .result ≡ firstOfSeven (callAt (given-first c))
 first c =
     let g = given-first c in
-    c .first-refusal .ensures (callAt g)
-    (subst (Lent (callAt g) (g .phase) (g .mode) (g .rules) (g .actions) (g .markers) (g .text) (g .outcomes)) (sym (c .before .sizes-of .ensures)) (lent-is g))
+    c .first-refusal .ensures (callAt g .transaction) (callAt g .lists)
+    (subst (Sized (callAt g .transaction) (callAt g .lists)) (sym (c .before .sizes-of .ensures)) (sized-so g))
 
 zero : (c : tie.Else1) → firstOfSeven (callAt (given-first (c .before))) ≡ 0
 zero c = sym (first (c .before)) ∙ c .if1 .left
@@ -94,6 +92,9 @@ front d n =
     let z : n - 0 ≡ n = omega arith in
     rw (z, append-nil d)
 
+from-start : (l : List ℕ) (n : ℕ) → take (n - 0) (drop 0 l) ≡ take n l
+from-start l n = rw append-nil at (front l n)
+
 few-fit : (c : tie.After-write-codes) → length (given-coded c .actions) / 6 ≤ length (left c ++ [])
 few-fit c =
     let few : length (given-coded c .actions) / 6 ≤ 4096 =
@@ -109,7 +110,7 @@ last c =
 passed : (c : tie.Else2) → refusalOf (callAt (given-coded (coded (c .before)))) ≡ 0
 passed c = sym (last (c .before)) ∙ c .if2 .left
 
-idle : (c : tie.After-is-idle) → nothingToDo (callAt (given-idle c)) ≡ c .is-idle .result
+idle : (c : tie.After-is-idle) → nothingToDo (callAt (given-idle c) .given) (callAt (given-idle c) .transaction) ≡ c .is-idle .result
 idle c =
     let n = c .before .mode-of-number in
     idle-is (given-idle c) (n .result) (c .is-idle .result) (n .ensures) (c .is-idle .ensures)
@@ -177,16 +178,51 @@ part-walk-rules-start c = search needs
 
 part-walk-rules-end : tie.Need-part-walk-rules-end
 part-walk-rules-end c =
-    let d = coded (past-nine (c .before .before .before) .before) in
+    let d = coded (past-nine (c .before .before) .before) in
     fits (left d) 4096 (omega arith) (room d)
 
 walk-rules-requires : tie.Need-walk-rules-requires
 walk-rules-requires c κs =
-    let b = c .before .before .before .before .before .before in
+    let b = c .before .before .before .before .before in
     let p = b .before in
     let d = coded (past-nine p .before) in
     ready-at (given-idle p) (passed (past-nine p)) (idle p ∙ b .if3 .left) _
     (front (left d) 4096 ∙ (take-all 4096 (left d) (omega (arith, room d)) ∙ codes d))
+
+abbrev start : tie.Else3 → tie.Start
+start c = past-seven (coded (past-nine (c .before) .before)) .before .before .before .before .before .before .before .before .before .before .before
+
+-- what the walk left, and that its visits are in the journal
+abbrev walking : tie.After-walk-rules → tie.Else3
+walking c = c .before .before .before .before .before .before
+
+abbrev lists : tie.After-walk-rules → LentLists
+lists c =
+    let l = c .walk-rules .last .1 .1 .1 .1 .1 .1 .1 .1 in
+    lent (l .0) (l .1 .0) (l .1 .1 .0)
+
+visited : (c : tie.After-walk-rules) → 2 * c .walk-rules .result .answer .visits ≤ length (lists c .journal)
+visited c =
+    let b = walking c in
+    let p = b .before in
+    visited-at (given-idle p) (passed (past-nine p)) (idle p ∙ b .if3 .left) (c .walk-rules .result) (lists c) (c .walk-rules .ensures)
+
+mul-visited : tie.Need-mul-visited
+mul-visited c =
+    let w = c .before .before .before .before .before .before in
+    omega (arith, visited w, w .walk-rules .kept .1 .1 .1 .1 .1 .1 .1 .1 .1 .1 .0, start (walking w) .good .1 .1 .1 .1 .1 .1 .1 .1 .1 .0 .1)
+
+sub-count-verdicts : tie.Need-sub-count-verdicts
+sub-count-verdicts c = search needs
+
+part-count-verdicts-start : tie.Need-part-count-verdicts-start
+part-count-verdicts-start c = search needs
+
+part-count-verdicts-end : tie.Need-part-count-verdicts-end
+part-count-verdicts-end c = visited (c .before .before .before .before .before .before .before .before)
+
+count-verdicts-requires : tie.Need-count-verdicts-requires
+count-verdicts-requires c κs = search needs
 
 same-length : tie.Need-same-length
 same-length c = search needs
@@ -199,12 +235,12 @@ same-length-3 c = search needs
 
 returns-4 : tie.Need-returns-4
 returns-4 c =
-    let w = c .before .before .before .before .before .before .walk-rules in
-    let b = c .before .before .before .before .before .before .before .before .before .before .before .before .before in
+    let w = c .before .before .before .before .before .before .before .before .before .before in
+    let b = walking w in
     let p = b .before in
-    let lists = w .last .1 .1 .1 .1 .1 .1 .1 .1 .1 .1 in
-    ran-at (given-idle p) (passed (past-nine p)) (idle p ∙ b .if3 .left)
-    (w .result) (lists .0) (lists .1 .0) (lists .1 .1 .0) (w .ensures)
+    ran-at (given-idle p) (passed (past-nine p)) (idle p ∙ b .if3 .left) (w .walk-rules .result) (lists w) (w .walk-rules .ensures)
+    (c .count-verdicts .result)
+    (c .count-verdicts .ensures ∙ ap (λ (words : List ℕ). reportOf (journalList words)) (from-start (lists w .journal) (2 * w .walk-rules .result .answer .visits)))
 
 pub run-phase-spec : {M : Type 1} → statement M
 run-phase-spec =
@@ -232,6 +268,11 @@ run-phase-spec =
     part-walk-rules-start
     part-walk-rules-end
     walk-rules-requires
+    mul-visited
+    sub-count-verdicts
+    part-count-verdicts-start
+    part-count-verdicts-end
+    count-verdicts-requires
     same-length
     same-length-2
     same-length-3

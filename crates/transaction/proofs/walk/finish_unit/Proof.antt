@@ -1,16 +1,14 @@
 -- `transaction::walk::finish_unit` meets its contract.
 use Prim.Native.Nat.{_*_, _<_, _^_}
-use mathlib.Core.Path.{refl, sym, ap, _∙_}
-use mathlib.Core.List.{[]}
+use mathlib.Core.Path.{refl, ap, _∙_}
 use native.Mathlib.Omega.{arith}
 use denote.Ref.{now}
 use lib.ListN.{length, length-drop}
 use Rattle.reading.specs.declared.RuleEngineMode.{RuleEngineMode}
 use Rattle.reading.specs.Numbers.{modeOfNumber}
+use Rattle.reading.specs.Records.{markerList, givenOf}
 use Rattle.apply.specs.Append.{structOf}
-use Rattle.unit.specs.MemberList.{Rest, callWith}
-use Rattle.transaction.specs.RunPhase.{transactionOf}
-use Rattle.transaction.specs.WalkRules.{fresh, membersAt, leftUnder}
+use Rattle.transaction.specs.WalkRules.{membersAt, leftUnder}
 use Rattle.transaction.proofs.Found.{mode-law}
 use Rattle.transaction.proofs.Parts.{lent-is, put-back}
 use Rattle.transaction.proofs.Turn.{wrote-few}
@@ -34,19 +32,6 @@ entered c = c .before .before .before .before .before .before .before .before .b
 
 abbrev closed : tie.After-unit-controls → tie.After-close-unit
 closed c = c .before .before .before .before .before .before .before .before .before .before
-
--- a call that the unit is of
-abbrev anyRest : tie.Start → Rest
-anyRest c =
-    let a = c .args in
-    record {
-      mode = a .call .mode;
-      status = a .call .«default_status»;
-      transaction = transactionOf (fresh (structOf (a .at .counts) (now (a .starts)) (now (a .ends)) (now (a .phases)) (now (a .positions))) 0 0);
-      ids = [];
-      data-entries = [];
-      journal = [];
-    }
 
 mul-from : tie.Need-mul-from
 mul-from c = let s = c .before .before .before .before .before .before .before .before .before .before in omega (arith, s .pre .first, s .pre .visits, journal-small s)
@@ -103,7 +88,7 @@ leave-unit-requires : tie.Need-leave-unit-requires
 leave-unit-requires c κs =
     let u = closed c in
     let s = entered u in
-    let few = wrote-few _ _ _ _ _ _ _ _ (u .close-unit .ensures (anyRest s)) in
+    let few = wrote-few _ _ _ _ _ _ _ _ (u .close-unit .ensures) in
     let ids = now (s .args .ids) in
     let entries = now (s .args .entries) in
     let i = s .args .at .ids in
@@ -119,7 +104,7 @@ same-length-2 : tie.Need-same-length-2
 same-length-2 c = search needs
 
 returns : tie.Need-returns
-returns c = λ rest mode status.
+returns c =
     let x = c .before in
     let u = closed x in
     let s = entered u in
@@ -128,21 +113,21 @@ returns c = λ rest mode status.
     let entries = now (a .entries) in
     let lists = u .close-unit .last .1 .1 .1 .1 .1 .1 .1 .1 in
     let arrays = x .unit-controls .last .1 .1 .1 .1 .1 .1 .1 in
-    let q = callWith (a .call .phase) (now (a .rules)) (now (a .actions)) (now (a .markers)) (now (a .text)) (now (a .outcomes)) rest in
+    let q = givenOf (a .call) (now (a .rules)) (now (a .actions)) (markerList (now (a .markers))) (now (a .text)) (now (a .outcomes)) in
     let counts = structOf (x .unit-controls .result) (arrays .0) (arrays .1 .0) (arrays .1 .1 .0) (arrays .1 .1 .1 .0) in
     record {
       gave = u .close-unit .result;
       counts = x .unit-controls .result;
       free-ids = lists .0;
       free-entries = lists .1 .0;
-      wrote = rw (lent-is ids (a .at .ids), lent-is entries (4 * a .at .entries)) at (u .close-unit .ensures rest);
+      wrote = rw (lent-is ids (a .at .ids), lent-is entries (4 * a .at .entries)) at (u .close-unit .ensures);
       ids-are = put-back ids (a .at .ids) (lists .0);
       entries-are = put-back entries (4 * a .at .entries) (lists .1 .0);
       turned = x .unit-controls .ensures;
       left-is =
-          c .leave-unit .ensures (now (a .markers)) (now (a .text)) (now (a .outcomes)) rest status
+          c .leave-unit .ensures (markerList (now (a .markers))) (now (a .text)) (now (a .outcomes))
           ∙ ap (λ (m : RuleEngineMode). leftUnder m q (membersAt (a .at) (now (a .journal))) (a .at) (u .close-unit .result)
-          (x .unit-controls .result)) (mode-law q counts (modeOfNumber (a .call .mode)) _ (ap modeOfNumber (sym mode)) refl);
+          (x .unit-controls .result)) (mode-law q counts (modeOfNumber (a .call .mode)) _ refl refl);
     }
 
 pub finish-unit-spec : {M : Type 1} → statement M

@@ -5,9 +5,8 @@ use denote.Ref.{now}
 use Rattle.reading.specs.declared.RuleEngineMode.{RuleEngineMode}
 use Rattle.reading.specs.Controls.{isOff, modeOr}
 use Rattle.reading.specs.Numbers.{modeOfNumber}
-use Rattle.reading.specs.Records.{journalList, matchedIn}
+use Rattle.reading.specs.Records.{journalList, matchedIn, givenOf}
 use Rattle.reading.specs.Units.{unitIntervention}
-use Rattle.unit.specs.MemberList.{callWith}
 use Rattle.intervention.specs.EndOfVisit.{endBy}
 use Rattle.transaction.specs.WalkRules.{isGoing, movedBy}
 use Rattle.transaction.proofs.Turn.{unit-ends, unit-goes-on}
@@ -50,21 +49,21 @@ last-is c =
     (c .before .mode-of-number .ensures)
 
 returns : tie.Need-returns
-returns c markers text outcomes rest status =
+returns c markers text outcomes =
     let t = c .before .before .before .before .before .before in
     let a = entered t .args in
     unit-ends (mode t) (a .u .disruptive) (movedBy (a .at) (a .u) (a .h))
-    (unitIntervention (callWith (a .call .phase) (now (a .rules)) (now (a .actions)) markers text outcomes rest)
+    (unitIntervention (givenOf (a .call) (now (a .rules)) (now (a .actions)) markers text outcomes)
     (matchedIn (journalList (now (a .members)))))
     (t .turn-end .result .ending) (end-is t) (t .turn-end .result .last) (last-is t) (c .before .if1 .taken)
-    (c .build-intervention .result) (c .build-intervention .ensures markers text outcomes rest status)
+    (c .build-intervention .result) (c .build-intervention .ensures markers text outcomes)
 
 returns-2 : tie.Need-returns-2
-returns-2 c markers text outcomes rest status =
+returns-2 c markers text outcomes =
     let t = c .before .before .before .before .before in
     let a = entered t .args in
     unit-goes-on (mode t) (a .u .disruptive) (movedBy (a .at) (a .u) (a .h))
-    (unitIntervention (callWith (a .call .phase) (now (a .rules)) (now (a .actions)) markers text outcomes rest)
+    (unitIntervention (givenOf (a .call) (now (a .rules)) (now (a .actions)) markers text outcomes)
     (matchedIn (journalList (now (a .members)))))
     (t .turn-end .result .ending) (end-is t) (t .turn-end .result .last) (last-is t) (c .if1 .left)
 

@@ -1,25 +1,25 @@
 -- `transaction::walk::walk_rules` meets its contract.
 use Prim.Native.Nat.{ℕ, _+_, _-_, _*_, _/_, _≤_, _<_, _^_}
 use mathlib.Core.Path.{_≡_, refl, sym, ap, subst, _∙_}
-use mathlib.Core.Bool.{true}
+use mathlib.Core.Bool.{true, false}
 use mathlib.Core.List.{List}
 use native.Mathlib.Omega.{arith}
 use borrow.Author.Tests.{not-true, not-false}
 use borrow.Author.Needs.{needs}
 use denote.Ref.{now}
 use lib.ListN.{length}
-use Rattle.reading.specs.Call.{Call}
+use Rattle.reading.specs.declared.OptionIntervention.{OptionIntervention}
+use Rattle.reading.specs.Records.{markerList, givenOf, LentLists, lent}
+use Rattle.reading.specs.Call.{Given}
 use Rattle.reading.specs.Walk.{verdictAt}
 use Rattle.control.specs.ControlsStruct.{controlsOf}
 use Rattle.control.specs.declared.state.Controls.{Controls}
 use Rattle.apply.specs.Append.{structOf}
-use Rattle.unit.specs.MemberList.{Rest}
 use Rattle.unit.specs.declared.visit.VisitOutcome.{VisitOutcome}
 use Rattle.unit.specs.VisitRule.{foundAt}
 use Rattle.transaction.specs.declared.types.Phase.{Phase}
 use Rattle.transaction.specs.declared.types.WalkState.{WalkState}
 use Rattle.transaction.specs.declared.types.Transaction.{Transaction}
-use Rattle.transaction.specs.RunPhase.{callOf}
 use Rattle.transaction.specs.WalkRules.{fresh, Ready, Walked, UnitClosed}
 use Rattle.transaction.proofs.Found.{verdict-found, visit-found}
 use Rattle.transaction.proofs.Progress.{Sofar, sofar-none, sofar-end, few-ranges, journal-same, ids-same, entries-same}
@@ -29,33 +29,30 @@ use Rattle.transaction.proofs.Turn.{sofar-closed, fewer-left-closed, wa
 use Rattle.transaction.proofs.walk.walk_rules.Statement.{statement}
 use Rattle.transaction.proofs.walk.walk_rules.Tie as tie
 
--- what a unit does not look at
-abbrev restOf : Call → Rest
-restOf q = record {
-  mode = q .mode;
-  status = q .status;
-  transaction = q .transaction;
-  ids = q .ids;
-  data-entries = q .data-entries;
-  journal = q .journal;
+-- the transaction at entry, by the walk's first state and the arrays
+abbrev entryBy : WalkState → List ℕ → List ℕ → List ℕ → List ℕ → Transaction
+entryBy at starts ends phases positions = record {
+  controls = structOf (at .counts) starts ends phases positions;
+  allowed = false;
+  intervention = OptionIntervention.None;
+  ids = at .ids;
+  entries = at .entries;
 }
 
 abbrev Inv-loop : tie.InvT-loop
-Inv-loop ids-before entries-before call rules actions markers text outcomes codes ids₀ entries₀ journal₀ starts₀ ends₀ phases₀ positions₀
+Inv-loop call rules actions markers text outcomes codes ids₀ entries₀ journal₀ starts₀ ends₀ phases₀ positions₀
     at₀ n ids entries journal starts ends phases positions at =
-    let t = fresh (structOf (at₀ .counts) starts₀ ends₀ phases₀ positions₀) ids-before entries-before in
-    Sofar (callOf (call .phase) (call .mode) (call .«default_status») rules actions markers text outcomes t ids₀ entries₀ journal₀) t ids₀
-    entries₀ journal₀ ids entries journal (structOf (at .counts) starts ends phases positions) (at .state) (at .visits) (at .ids)
+    Sofar (givenOf call rules actions (markerList markers) text outcomes) (entryBy at₀ starts₀ ends₀ phases₀ positions₀) ids₀ entries₀ journal₀ ids entries journal (structOf (at .counts) starts ends phases positions) (at .state) (at .visits) (at .ids)
     (at .entries)
 
 abbrev μ-loop : tie.MeasureT-loop
-μ-loop ids-before entries-before call rules actions markers text outcomes codes ids₀ entries₀ journal₀ starts₀ ends₀ phases₀ positions₀
+μ-loop call rules actions markers text outcomes codes ids₀ entries₀ journal₀ starts₀ ends₀ phases₀ positions₀
     at₀ n ids entries journal starts ends phases positions at =
     length rules / 5 - at .state .next
 
 -- the journal is in memory
 journal-small : (c : tie.Start Inv-loop μ-loop) → 8 * length (now (c .args .journal)) < 2 ^ 64
-journal-small c = omega (arith, c .good .1 .1 .1 .1 .1 .1 .1 .1 .1 .1 .1 .1 .0 .1)
+journal-small c = omega (arith, c .good .1 .1 .1 .1 .1 .1 .1 .1 .1 .1 .0 .1)
 
 -- earlier places, seen from later ones
 abbrev entered : tie.After-start Inv-loop μ-loop → tie.Start Inv-loop μ-loop
@@ -73,47 +70,36 @@ visited c = c .before .before .before .before
 abbrev closing : tie.After-finish-unit Inv-loop μ-loop → tie.Else3 Inv-loop μ-loop
 closing c = c .before .before .before .before .before .before .before .before
 
--- the call and the transaction, by the controls at the start
-abbrev callBy : tie.Start Inv-loop μ-loop → Controls → Call
-callBy c controls =
+-- what is given, and the lists as lent
+abbrev given : tie.Start Inv-loop μ-loop → Given
+given c =
     let a = c .args in
-    callOf (a .call .phase) (a .call .mode) (a .call .«default_status») (now (a .rules)) (now (a .actions)) (now (a .markers)) (now (a .text))
-    (now (a .outcomes)) (fresh controls (a .ids-before) (a .entries-before)) (now (a .ids)) (now (a .entries)) (now (a .journal))
+    givenOf (a .call) (now (a .rules)) (now (a .actions)) (markerList (now (a .markers))) (now (a .text)) (now (a .outcomes))
 
--- the controls that `start` and the arrays make up are those that were passed
-abbrev first : tie.After-start Inv-loop μ-loop → Controls
-first c =
-    let controls = entered c .args .controls in
-    structOf (c .start .result .counts) (controls .starts) (controls .ends) (controls .phases) (controls .positions)
+abbrev lists : tie.Start Inv-loop μ-loop → LentLists
+lists c = lent (now (c .args .ids)) (now (c .args .entries)) (now (c .args .journal))
 
-first-is : (c : tie.After-start Inv-loop μ-loop) → first c ≡ entered c .args .controls
-first-is c =
-    let controls = entered c .args .controls in
-    ap (λ (r : WalkState). structOf (r .counts) (controls .starts) (controls .ends) (controls .phases) (controls .positions)) (c .start .ensures)
+abbrev Q : tie.After-start Inv-loop μ-loop → Given
+Q c = given (entered c)
 
+-- the transaction that `start` and the arrays make up is the one that was passed
 abbrev T : tie.After-start Inv-loop μ-loop → Transaction
-T c = fresh (first c) (entered c .args .ids-before) (entered c .args .entries-before)
+T c =
+    let controls = entered c .args .t .controls in
+    entryBy (c .start .result) (controls .starts) (controls .ends) (controls .phases) (controls .positions)
 
-abbrev Q : tie.After-start Inv-loop μ-loop → Call
-Q c = callBy (entered c) (first c)
+first-is : (c : tie.After-start Inv-loop μ-loop) → T c ≡ fresh (entered c .args .t)
+first-is c =
+    let controls = entered c .args .t .controls in
+    ap (λ (r : WalkState). entryBy r (controls .starts) (controls .ends) (controls .phases) (controls .positions)) (c .start .ensures)
 
-ready : (c : tie.After-start Inv-loop μ-loop) → Ready (Q c) (T c) (now (entered c .args .codes)) (now (entered c .args .ids))
-    (now (entered c .args .entries)) (now (entered c .args .journal))
+ready : (c : tie.After-start Inv-loop μ-loop) → Ready (Q c) (T c) (now (entered c .args .codes)) (lists (entered c))
 ready c =
-    let a = entered c .args in
-    subst (λ (y : Controls). Ready (callBy (entered c) y) (fresh y (a .ids-before) (a .entries-before)) (now (a .codes))
-    (now (a .ids)) (now (a .entries)) (now (a .journal))) (sym (first-is c)) (entered c .pre)
+    subst (λ (t : Transaction). Ready (Q c) t (now (entered c .args .codes)) (lists (entered c))) (sym (first-is c)) (entered c .pre)
 
-walked : (c : tie.After-start Inv-loop μ-loop) (r : Phase) (ids entries journal : List ℕ)
-    → Walked (Q c) (T c) (now (entered c .args .ids)) (now (entered c .args .entries)) (now (entered c .args .journal)) r ids entries
-    journal
-    → (let a = entered c .args in
-    Walked (callBy (entered c) (a .controls)) (fresh (a .controls) (a .ids-before) (a .entries-before)) (now (a .ids)) (now (a .entries))
-    (now (a .journal)) r ids entries journal)
-walked c r ids entries journal =
-    let a = entered c .args in
-    subst (λ (y : Controls). Walked (callBy (entered c) y) (fresh y (a .ids-before) (a .entries-before)) (now (a .ids))
-    (now (a .entries)) (now (a .journal)) r ids entries journal) (first-is c)
+walked : (c : tie.After-start Inv-loop μ-loop) (r : Phase) (l : LentLists)
+    → Walked (Q c) (T c) (lists (entered c)) r l → Walked (Q c) (fresh (entered c .args .t)) (lists (entered c)) r l
+walked c r l = subst (λ (t : Transaction). Walked (Q c) t (lists (entered c)) r l) (first-is c)
 
 -- the controls that the locals make up, at the head of a turn
 abbrev held-at : (c : tie.At-loop Inv-loop μ-loop) → Controls
@@ -201,8 +187,8 @@ loop-holds : tie.Need-loop-holds Inv-loop μ-loop
 loop-holds c =
     let a = entered c .args in
     subst (λ (r : WalkState). Sofar (Q c) (T c) (now (a .ids)) (now (a .entries)) (now (a .journal)) (now (a .ids)) (now (a .entries))
-    (now (a .journal)) (first c) (r .state) (r .visits) (r .ids) (r .entries)) (sym (c .start .ensures))
-    (sofar-none (Q c) (T c) (now (a .codes)) (now (a .ids)) (now (a .entries)) (now (a .journal)) refl (ready c))
+    (now (a .journal)) (T c .controls) (r .state) (r .visits) (T c .ids) (T c .entries)) (sym (c .start .ensures))
+    (sofar-none (Q c) (T c) (now (a .codes)) (now (a .ids)) (now (a .entries)) (now (a .journal)) (ready c))
 
 visit-next-requires : tie.Need-visit-next-requires Inv-loop μ-loop
 visit-next-requires c κs =
@@ -241,7 +227,7 @@ returns c =
     let e = c .before .before .before in
     let v = visited e in
     rw (c .ended .ensures, c .before .end-at .ensures)
-    (walked (head (turning v) .before) _ _ _ _
+    (walked (head (turning v) .before) _ _
     (sofar-error (turn v) (journal-with v) (v .visit-next .ensures .1) (sym (e .is-error .ensures) ∙ c .before .before .if2 .taken)))
 
 -- NO UNIT IS CLOSED
@@ -285,7 +271,7 @@ unit-closed : (c : tie.After-finish-unit Inv-loop μ-loop)
     (record { state = w .after; visits = l .at .visits + 1; ids = l .at .ids; entries = l .at .entries; counts = l .at .counts })
     (l .ids) (l .entries) (journal-with v) (l .starts) (l .ends) (l .phases) (l .positions) (c .finish-unit .result)
     (after .0) (after .1 .0) (after .1 .1 .1 .0) (after .1 .1 .1 .1 .0) (after .1 .1 .1 .1 .1 .0) (after .1 .1 .1 .1 .1 .1 .0))
-unit-closed c = c .finish-unit .ensures (restOf (Q (head (turning (at-else (closing c))) .before))) refl refl
+unit-closed c = c .finish-unit .ensures
 
 enum-known-left : tie.Need-enum-known-left Inv-loop μ-loop
 enum-known-left c = search needs
@@ -324,7 +310,7 @@ returns-2 c =
     let v = at-else x in
     let l = head (turning v) .loop in
     rw (c .ended2 .ensures)
-    (walked (head (turning v) .before) _ _ _ _
+    (walked (head (turning v) .before) _ _
     (walked-closed (turn v) (journal-with v) (v .visit-next .ensures .1) (closes x) (l .at .counts) (l .starts) (l .ends) (l .phases)
     (l .positions) refl _ _ _ _ _ _ _ (unit-closed k) _ (c .before .before .left2 .given .1)))
 
@@ -369,7 +355,7 @@ returns-3 c =
     let h = c .before .before .before .before in
     let a = entered (h .before) .args in
     rw (c .ended3 .ensures, c .before .end-at2 .ensures)
-    (walked (h .before) _ _ _ _
+    (walked (h .before) _ _
     (sofar-end (Q (h .before)) (T (h .before)) (now (a .ids)) (now (a .entries)) (now (a .journal))
     (h .loop .ids) (h .loop .entries) (h .loop .journal) (held-at h) (h .loop .at .state) (h .loop .at .visits) (h .loop .at .ids)
     (h .loop .at .entries) (h .loop .inv)
