@@ -5,37 +5,16 @@ use mathlib.Core.Bool.{true, false, cond}
 use mathlib.Core.List.{List}
 use lib.Dec.{eqb, ltb}
 use lib.ListN.{take}
-use Rattle.reading.specs.declared.Marker.{Marker}
-use Rattle.reading.specs.Reading.{rust}
-use Rattle.reading.specs.Records.{ruleList, actionList, dataList, journalList}
-use Rattle.reading.specs.Call.{Call}
+use Rattle.reading.specs.Records.{LentLists}
+use Rattle.reading.specs.Call.{Given, Call}
 use Rattle.reading.specs.Refusals.{refused1, refused2, refused3, refused4}
 use Rattle.refusals.specs.declared.first.Sizes.{Sizes}
 use Rattle.abi.specs.declared.marker_words.MarkerWords.{MarkerWords}
 use Rattle.transaction.specs.declared.types.Answer.{Answer}
 use Rattle.transaction.specs.declared.types.Phase.{Phase}
-use Rattle.transaction.specs.declared.types.Transaction.{Transaction}
-use Rattle.transaction.specs.RunPhase.{transactionOf, Ran}
+use Rattle.transaction.specs.RunPhase.{callOf, answerWithout, Ran}
 use Rattle.abi.specs.declared.host_phase.HostTransaction.{HostTransaction}
 use Rattle.abi.specs.HostRecord.{known, fromHost, toHost}
-
--- 01: "Markers are lent as a list of marker records". The call, in the Rust's reading
-abbrev pub callLent : ℕ → ℕ → ℕ → List ℕ → List ℕ → List Marker → List ℕ → List ℕ → Transaction → List ℕ → List ℕ → List ℕ → Call
-callLent phase mode status rules actions markers text outcomes t ids entries journal = record {
-  reading = rust;
-  phase = phase;
-  mode = mode;
-  status = status;
-  rules = ruleList rules;
-  actions = actionList actions;
-  markers = markers;
-  text = text;
-  outcomes = outcomes;
-  transaction = transactionOf t;
-  ids = ids;
-  data-entries = dataList entries;
-  journal = journalList journal;
-}
 
 -- how many numbers of unpacked markers are read: those of the first 257
 abbrev pub lentWords : ℕ → ℕ
@@ -59,22 +38,19 @@ unknownAnswer q =
     (cond (refused4 q) 4 5)))
 
 -- 01: "transaction and lists are found exactly as lent"
-pub record Refused (h : HostTransaction) (q : Call) (ids entries journal : List ℕ) (a : Answer) (h′ : HostTransaction) (ids′ entries′ journal′ : List ℕ) : Type 0 where
-  pub answer : a ≡ record { answer = unknownAnswer q; error = 0; visits = 0 }
+pub record Refused (h : HostTransaction) (q : Call) (l : LentLists) (a : Answer) (h′ : HostTransaction) (l′ : LentLists) : Type 0 where
+  pub answer : a ≡ answerWithout (unknownAnswer q)
   pub transaction : h′ ≡ h
-  pub ids-are : ids′ ≡ ids
-  pub entries-are : entries′ ≡ entries
-  pub journal-is : journal′ ≡ journal
+  pub lists : l′ ≡ l
 
--- THE PROMISE TO A HOST. h is the record and q the call on the transaction that it stands for; the lists are those lent, and a, h′
--- and the lists with a mark are what is found.
-pub record HostRan (h : HostTransaction) (q : Call) (ids entries journal : List ℕ) (a : Answer) (h′ : HostTransaction) (ids′ entries′ journal′ : List ℕ) : Type 0 where
-  -- every number is known: the phase call's own promise
-  pub ran : known h ≡ true → Ran q (fromHost h) entries journal (phaseFound a h′) ids′ entries′ journal′
+-- THE PROMISE TO A HOST. g is what the call is given, h the record and l the lists as lent; a, h′ and l′ are what is found.
+pub record HostRan (h : HostTransaction) (g : Given) (l : LentLists) (a : Answer) (h′ : HostTransaction) (l′ : LentLists) : Type 0 where
+  -- every number is known: the phase call's own promise, of the transaction that the record stands for
+  pub ran : known h ≡ true → Ran g (fromHost h) l (phaseFound a h′) l′
   -- and of each number of the record: a call without a visit, refused or idle, leaves it as lent, any other writes it anew
   pub record-is : known h ≡ true → h′ ≡ cond (eqb (a .visits) 0) h (toHost (fromHost h′))
   -- a number is not known
-  pub refused : known h ≡ false → Refused h q ids entries journal a h′ ids′ entries′ journal′
+  pub refused : known h ≡ false → Refused h (callOf g (fromHost h) l) l a h′ l′
 
 -- what the record counts, and how many entries lists of so many numbers have: four to a data entry, two to an entry of the journal
 abbrev pub sizesOf : HostTransaction → ℕ → ℕ → ℕ → Sizes

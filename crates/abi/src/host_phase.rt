@@ -8,10 +8,12 @@ use crate::host_intervention::HostIntervention;
 use crate::marker_words;
 use crate::marker_words::MarkerWords;
 use crate::values;
+use reading::CallSettings;
 use reading::widths;
 use refusals::first;
 use refusals::first::Counts;
 use refusals::first::Sizes;
+use transaction::outcome;
 use transaction::run_phase;
 use transaction::types::Answer;
 use transaction::types::Transaction;
@@ -20,7 +22,8 @@ ghost use Prim.Native.Nat.{_/_};
 ghost use lib.ListN.{take};
 ghost use Rattle.reading.specs.Call.{Call};
 ghost use Rattle.refusals.specs.FirstRefusal.{Counted};
-ghost use Rattle.transaction.specs.RunPhase.{callOf};
+ghost use Rattle.reading.specs.Records.{markerList, givenOf, lent};
+ghost use Rattle.transaction.specs.RunPhase.{answerWithout};
 ghost use Rattle.abi.specs.HostRecord.{fromHost, toHost, known};
 ghost use Rattle.abi.specs.HostCall.{lentWords, lentPart, unknownAnswer, sizesOf, HostRan};
 
@@ -132,10 +135,10 @@ fn sizes_of(h: HostTransaction, ids: usize, entries: usize, journal: usize) -> S
 }
 
 // The answer to a record with a number that is not known: that is refusal 5, and refusals 1 to 4 go first.
-fn unknown_answer(phase: u64, mode: u64, counts: Counts, sizes: Sizes) -> u64
-    ensures { λ r. ⌜ ((q : Call) → Counted q phase mode counts sizes → r ≡ unknownAnswer q) ⌝ }
+fn unknown_answer(call: CallSettings, counts: Counts, sizes: Sizes) -> u64
+    ensures { λ r. ⌜ ((q : Call) → Counted q call counts sizes → r ≡ unknownAnswer q) ⌝ }
 {
-    let early = first::early_refusal(phase, mode, counts, sizes);
+    let early = first::early_refusal(call, counts, sizes);
     if early == 0 {
         return 5;
     }
@@ -144,13 +147,9 @@ fn unknown_answer(phase: u64, mode: u64, counts: Counts, sizes: Sizes) -> u64
 
 // An answer that leaves the record as it was.
 fn as_lent(answer: u64, h: HostTransaction) -> HostPhase
-    ensures { λ r. ⌜ r ≡ record { answer = record { answer = answer; error = 0; visits = 0 }; transaction = h } ⌝ }
+    ensures { λ r. ⌜ r ≡ record { answer = answerWithout answer; transaction = h } ⌝ }
 {
-    let answer = Answer {
-        answer,
-        error: 0,
-        visits: 0,
-    };
+    let answer = outcome::unvisited(answer);
     HostPhase {
         answer,
         transaction: h,
@@ -162,9 +161,7 @@ fn as_lent(answer: u64, h: HostTransaction) -> HostPhase
 // kept whole for that: a copy of it costs as much as twenty rules.
 pub fn host_phase(
     h: HostTransaction,
-    phase: u64,
-    mode: u64,
-    default_status: u64,
+    call: CallSettings,
     rules: &[u64],
     actions: &[u64],
     markers: MarkerWords,
@@ -174,8 +171,8 @@ pub fn host_phase(
     entries: &mut [u64],
     journal: &mut [u64],
 ) -> HostPhase
-    ensures { λ r. ⌜ HostRan h (callOf phase mode «default_status» (now (rules .entry)) (now (actions .entry)) (lentPart markers) (now (text .entry)) (now (outcomes .entry)) (fromHost h) (now (ids .entry)) (now (entries .entry)) (now (journal .entry)))
-        (now (ids .entry)) (now (entries .entry)) (now (journal .entry)) (r .answer) (r .transaction) (now (ids .exit)) (now (entries .exit)) (now (journal .exit)) ⌝ }
+    ensures { λ r. ⌜ HostRan h (givenOf call (now (rules .entry)) (now (actions .entry)) (markerList (lentPart markers)) (now (text .entry)) (now (outcomes .entry)))
+        (lent (now (ids .entry)) (now (entries .entry)) (now (journal .entry))) (r .answer) (r .transaction) (lent (now (ids .exit)) (now (entries .exit)) (now (journal .exit))) ⌝ }
 {
     let words = lent_words(&markers.words, markers.count);
     if !is_known(h) {
@@ -187,14 +184,12 @@ pub fn host_phase(
             outcomes.len(),
         );
         let sizes = sizes_of(h, ids.len(), entries.len(), journal.len());
-        return as_lent(unknown_answer(phase, mode, counts, sizes), h);
+        return as_lent(unknown_answer(call, counts, sizes), h);
     }
     let t = from_host(h);
     let p = run_phase::run_phase(
         t,
-        phase,
-        mode,
-        default_status,
+        call,
         rules,
         actions,
         words,

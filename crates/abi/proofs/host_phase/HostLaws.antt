@@ -8,12 +8,12 @@ use lib.ListN.{length}
 use lib.Dec.{ltb, eqb}
 use lib.Seq.{length-take-le}
 use borrow.Author.Tests.{eq-eqb, ne-eqb, lt-ltb, ltb-true}
+use Rattle.reading.specs.declared.CallSettings.{CallSettings}
 use Rattle.reading.specs.declared.Marker.{Marker}
-use Rattle.reading.specs.Records.{markerList}
-use Rattle.reading.specs.Call.{Call, ruleCount}
+use Rattle.reading.specs.Records.{markerList, givenOf, LentLists}
+use Rattle.reading.specs.Call.{Given, Call, ruleCount}
 use Rattle.reading.specs.Call as reading
 use Rattle.reading.specs.Refusals.{refused1, refused2, refused3, refused4}
-use Rattle.reading.specs.Walk.{Visit}
 use Rattle.reading.specs.Outcome.{Outcome, visitsOf, outcomeOf, transactionAfter}
 use Rattle.lists.proofs.RecordLaws.{length-markers}
 use Rattle.lists.proofs.Tests.{or-false-is}
@@ -29,12 +29,12 @@ use Rattle.abi.proofs.marker_words.Padded.{words-length}
 use Rattle.transaction.specs.declared.types.Answer.{Answer}
 use Rattle.transaction.specs.declared.types.Phase.{Phase}
 use Rattle.transaction.specs.declared.types.Transaction.{Transaction}
-use Rattle.transaction.specs.RunPhase.{transactionOf, callOf, Ran}
-use Rattle.transaction.proofs.Tested.{lent-is}
+use Rattle.transaction.specs.RunPhase.{transactionOf, callOf, answerWithout, Ran}
+use Rattle.transaction.proofs.Tested.{sized-so}
 use Rattle.abi.specs.HostControls.{controlsFromHost}
 use Rattle.abi.specs.declared.host_phase.HostTransaction.{HostTransaction}
 use Rattle.abi.specs.HostRecord.{known, fromHost, toHost}
-use Rattle.abi.specs.HostCall.{callLent, lentWords, lentPart, phaseFound, unknownAnswer, sizesOf, HostRan}
+use Rattle.abi.specs.HostCall.{lentWords, lentPart, phaseFound, unknownAnswer, sizesOf, HostRan}
 use Rattle.abi.proofs.host_phase.LentMarkers.{few-words, ran-lent}
 use Rattle.abi.proofs.host_phase.RoundTrip.{withIntervention, back, forth}
 
@@ -67,57 +67,45 @@ module _ (q : Call) where
   pub one-of-four : (firstOfFour q ≡ 0 → ⊥) → firstOfFour q ≡ unknownAnswer q
   one-of-four h = sym (ap (λ (b : Bool). cond b 5 (firstOfFour q)) (ne-eqb (firstOfFour q) 0 h)) ∙ with-five
 
-module _ (phase mode status : ℕ) (rules actions words text outcomes : List ℕ) (h : HostTransaction) (ids entries journal : List ℕ)
-  where
-    abbrev lentCall : Call
-    lentCall = callOf phase mode status rules actions words text outcomes (fromHost h) ids entries journal
+-- what is lent, with a record for the transaction
+module _ (call : CallSettings) (rules actions words text outcomes : List ℕ) (h : HostTransaction) (l : LentLists) where
+  abbrev given : Given
+  given = givenOf call rules actions (markerList words) text outcomes
 
-    abbrev counts : Counts
-    counts = record {
-      rules = length rules / 5;
-      actions = length actions / 6;
-      markers = length words / 3;
-      bytes = length text;
-      outcomes = length outcomes;
-    }
+  abbrev lentCall : Call
+  lentCall = callOf given (fromHost h) l
 
-    lent-counted : Counted lentCall phase mode counts (sizesOf h (length ids) (length entries) (length journal))
-    unfolding fromHost controlsFromHost
-    lent-counted = counted (lent-is (record {
-      phase = phase;
-      mode = mode;
-      status = status;
-      rules = rules;
-      actions = actions;
-      markers = words;
-      text = text;
-      outcomes = outcomes;
-      t = fromHost h;
-      ids = ids;
-      entries = entries;
-      journal = journal;
-    }))
+  abbrev counts : Counts
+  counts = record {
+    rules = length rules / 5;
+    actions = length actions / 6;
+    markers = length words / 3;
+    bytes = length text;
+    outcomes = length outcomes;
+  }
 
-    -- k is what `unknown_answer` gave
-    pub ran-unknown : (k : ℕ) (given : Counts) (sizes : Sizes) → given ≡ counts → sizes ≡ sizesOf h (length ids) (length entries) (length journal)
-        → known h ≡ false → ((q : Call) → Counted q phase mode given sizes → k ≡ unknownAnswer q)
-        → HostRan h lentCall ids entries journal (record { answer = k; error = 0; visits = 0 }) h ids entries journal
-    ran-unknown k given sizes same are unknown answers =
-        let e : k ≡ unknownAnswer lentCall =
-        answers lentCall
-        (subst (λ (y : Counts). Counted lentCall phase mode y sizes) (sym same)
-        (subst (λ (z : Sizes). Counted lentCall phase mode counts z) (sym are) lent-counted)) in
-        record {
-          ran = λ y. absurd (not-both (known h) y unknown);
-          record-is = λ y. absurd (not-both (known h) y unknown);
-          refused = λ _. record {
-            answer = λ i. record { answer = e i; error = 0; visits = 0 };
-            transaction = refl;
-            ids-are = refl;
-            entries-are = refl;
-            journal-is = refl;
-          };
-        }
+  abbrev sizesIn : Sizes
+  sizesIn = sizesOf h (length (l .ids)) (length (l .entries)) (length (l .journal))
+
+  lent-counted : Counted lentCall call counts sizesIn
+  unfolding fromHost controlsFromHost
+  lent-counted =
+      counted (record { call = call; rules = rules; actions = actions; markers = words; text = text; outcomes = outcomes; t = lentCall .transaction; lists = lentCall .lists })
+      (sized-so (record { call = call; rules = rules; actions = actions; markers = words; text = text; outcomes = outcomes; t = fromHost h; lists = l }))
+
+  -- k is what `unknown_answer` gave
+  pub ran-unknown : (k : ℕ) (made : Counts) (sizes : Sizes) → made ≡ counts → sizes ≡ sizesIn → known h ≡ false
+      → ((q : Call) → Counted q call made sizes → k ≡ unknownAnswer q) → HostRan h given l (answerWithout k) h l
+  ran-unknown k made sizes same are unknown answers =
+      let e : k ≡ unknownAnswer lentCall =
+      answers lentCall
+      (subst (λ (y : Counts). Counted lentCall call y sizes) (sym same)
+      (subst (λ (z : Sizes). Counted lentCall call counts z) (sym are) lent-counted)) in
+      record {
+        ran = λ y. absurd (not-both (known h) y unknown);
+        record-is = λ y. absurd (not-both (known h) y unknown);
+        refused = λ _. record { answer = ap answerWithout e; transaction = refl; lists = refl };
+      }
 
 -- THE MARKERS THAT ARE LENT ON
 
@@ -142,37 +130,39 @@ many-lent m full = by (ltb 257 (m .count)) refl
         ap (ltb 256) same
 
 -- what the call on the first numbers of unpacked markers leaves of a record, the call on the marker records leaves
-pub host-lent : (phase mode status : ℕ) (rules actions : List ℕ) (ms : List Marker) (text outcomes : List ℕ) (h : HostTransaction)
-    (ids entries journal : List ℕ) (a : Answer) (h′ : HostTransaction) (ids′ entries′ journal′ : List ℕ)
-    → HostRan h (callOf phase mode status rules actions (lentPart (markerWordsOf ms)) text outcomes (fromHost h) ids entries journal) ids entries journal a h′ ids′ entries′ journal′
-    → HostRan h (callLent phase mode status rules actions ms text outcomes (fromHost h) ids entries journal) ids entries journal a h′ ids′ entries′ journal′
-unfolding unknownAnswer refused1 refused2 refused3 refused4
-host-lent phase mode status rules actions ms text outcomes h ids entries journal a h′ ids′ entries′ journal′ r = record {
-  ran = λ k. ran-lent phase mode status rules actions ms text outcomes (fromHost h) ids entries journal (lentPart (markerWordsOf ms))
-      (phaseFound a h′) ids′ entries′ journal′ refl (r .ran k);
-  record-is = r .record-is;
-  refused = λ k. record {
-    answer = r .refused k .answer ∙ ap (λ (n : ℕ). record { answer = n; error = 0; visits = 0 }) same;
-    transaction = r .refused k .transaction;
-    ids-are = r .refused k .ids-are;
-    entries-are = r .refused k .entries-are;
-    journal-is = r .refused k .journal-is;
-  };
-}
-  where
-    call : List Marker → Call
-    call l = callLent phase mode status rules actions l text outcomes (fromHost h) ids entries journal
+module _ (call : CallSettings) (rules actions : List ℕ) (ms : List Marker) (text outcomes : List ℕ) (h : HostTransaction) (l : LentLists) where
+  abbrev givenWith : List Marker → Given
+  givenWith markers = givenOf call rules actions markers text outcomes
 
-    -- the answer, by whether there are too many markers
-    answer : Bool → ℕ
-    answer many =
-        cond (refused1 (call ms)) 1
-        (cond (ltb 512 (ruleCount (call ms)) || ltb 4096 (length (call ms .actions)) || many || ltb 65536 (length text)) 2
-        (cond (refused3 (call ms)) 3
-        (cond (refused4 (call ms)) 4 5)))
+  abbrev callWith : List Marker → Call
+  callWith markers = callOf (givenWith markers) (fromHost h) l
 
-    same : unknownAnswer (call (markerList (lentPart (markerWordsOf ms)))) ≡ unknownAnswer (call ms)
-    same = ap answer (many-lent (markerWordsOf ms) (words-length ms))
+  abbrev firstMarkers : List Marker
+  firstMarkers = markerList (lentPart (markerWordsOf ms))
+
+  -- the answer, by whether there are too many markers
+  answer-by : Bool → ℕ
+  answer-by many =
+      cond (refused1 (callWith ms)) 1
+      (cond (ltb 512 (ruleCount (givenWith ms)) || ltb 4096 (length (givenWith ms .actions)) || many || ltb 65536 (length text)) 2
+      (cond (refused3 (callWith ms)) 3
+      (cond (refused4 (callWith ms)) 4 5)))
+
+  same-answer : unknownAnswer (callWith firstMarkers) ≡ unknownAnswer (callWith ms)
+  unfolding unknownAnswer refused1 refused2 refused3 refused4 answer-by
+  same-answer = ap answer-by (many-lent (markerWordsOf ms) (words-length ms))
+
+  pub host-lent : (a : Answer) (h′ : HostTransaction) (l′ : LentLists)
+      → HostRan h (givenWith firstMarkers) l a h′ l′ → HostRan h (givenWith ms) l a h′ l′
+  host-lent a h′ l′ r = record {
+    ran = λ k. ran-lent call rules actions text outcomes (fromHost h) l (phaseFound a h′) l′ ms (lentPart (markerWordsOf ms)) refl (r .ran k);
+    record-is = r .record-is;
+    refused = λ k. record {
+      answer = r .refused k .answer ∙ ap answerWithout same-answer;
+      transaction = r .refused k .transaction;
+      lists = r .refused k .lists;
+    };
+  }
 
 -- A CALL THAT WAS MADE
 
@@ -194,15 +184,15 @@ kept-transaction p e =
       ids = sym (plus-none (p .transaction .ids)) i;
       data-entries = sym (plus-none (p .transaction .data-entries)) i;
     })
-    ∙ ap (λ (vs : List Visit). transactionAfter p vs) (sym (no-entries (visitsOf p) e))
+    ∙ ap (transactionAfter (p .given) (p .transaction)) (sym (no-entries (visitsOf p) e))
 
 -- the transaction after a call without a visit is the one before it
-unmoved : (p : Call) (t : Transaction) (r : Phase) → p .transaction ≡ transactionOf t → SameSizes (r .transaction .controls) (t .controls)
-    → (entries journal ids′ entries′ journal′ : List ℕ)
-    → Ran p t entries journal r ids′ entries′ journal′ → r .answer .visits ≡ 0 → r .transaction ≡ t
-unmoved p t r is sizes entries journal ids′ entries′ journal′ ran none =
+unmoved : (g : Given) (t : Transaction) (l : LentLists) (r : Phase) (l′ : LentLists) → SameSizes (r .transaction .controls) (t .controls)
+    → Ran g t l r l′ → r .answer .visits ≡ 0 → r .transaction ≡ t
+unmoved g t l r l′ sizes ran none =
+    let p = callOf g t l in
     let same : transactionOf t ≡ outcomeOf p .transaction
-    = sym is ∙ kept-transaction p (ap (λ (o : Outcome). o .visits) (sym (ran .outcome)) ∙ none) in
+    = kept-transaction p (ap (λ (o : Outcome). o .visits) (sym (ran .outcome)) ∙ none) in
     let found : transactionOf (r .transaction) ≡ transactionOf t = ap (λ (o : Outcome). o .transaction) (ran .outcome) ∙ sym same in
     let stays : Became (t .controls) (t .controls) (outcomeOf p .transaction .controls) = record {
       meaning = ap (λ (x : reading.Transaction). x .controls) same;
@@ -221,22 +211,19 @@ unmoved p t r is sizes entries journal ids′ entries′ journal′ ran none =
     }
 
 -- r is what the phase call gave of the transaction t that the record stands for
-module _ (h : HostTransaction) (t : Transaction) (is : t ≡ fromHost h) (callWith : Transaction → Call)
-    (holds : (x : Transaction) → callWith x .transaction ≡ transactionOf x)
-    (ids entries journal ids′ entries′ journal′ : List ℕ) (r : Phase) (k : known h ≡ true)
-    (sizes : SameSizes (r .transaction .controls) (controlsFromHost (h .controls)))
-    (ran : Ran (callWith t) t entries journal r ids′ entries′ journal′) where
+module _ (g : Given) (h : HostTransaction) (t : Transaction) (is : t ≡ fromHost h) (l : LentLists) (r : Phase) (l′ : LentLists) (k : known h ≡ true)
+    (sizes : SameSizes (r .transaction .controls) (controlsFromHost (h .controls))) (ran : Ran g t l r l′) where
   abbrev Found : HostTransaction → Type 0
-  Found h′ = HostRan h (callWith (fromHost h)) ids entries journal (r .answer) h′ ids′ entries′ journal′
+  Found h′ = HostRan h g l (r .answer) h′ l′
 
-  here : Ran (callWith (fromHost h)) (fromHost h) entries journal r ids′ entries′ journal′
-  here = subst (λ (x : Transaction). Ran (callWith x) x entries journal r ids′ entries′ journal′) is ran
+  here : Ran g (fromHost h) l r l′
+  here = subst (λ (x : Transaction). Ran g x l r l′) is ran
 
   -- of a record that stands for what was found
   standing : (h′ : HostTransaction) → r .transaction ≡ fromHost h′
       → h′ ≡ cond (eqb (r .answer .visits) 0) h (toHost (fromHost h′)) → Found h′
   standing h′ from numbers = record {
-    ran = λ _. subst (λ (x : Transaction). Ran (callWith (fromHost h)) (fromHost h) entries journal (record { answer = r .answer; transaction = x }) ids′ entries′ journal′) from here;
+    ran = λ _. subst (λ (x : Transaction). Ran g (fromHost h) l (record { answer = r .answer; transaction = x }) l′) from here;
     record-is = λ _. numbers;
     refused = λ y. absurd (not-both (known h) k y);
   }
@@ -248,8 +235,7 @@ module _ (h : HostTransaction) (t : Transaction) (is : t ≡ fromHost h) (callWi
   -- without a visit the intervention is put back, and then the record is as lent
   pub unvisited : r .answer .visits ≡ 0 → (x : HostTransaction) → x ≡ toHost (r .transaction) → Found (withIntervention x (h .intervention))
   unvisited z x wrote =
-      let still : r .transaction ≡ fromHost h =
-      unmoved (callWith (fromHost h)) (fromHost h) r (holds (fromHost h)) same-sizes entries journal ids′ entries′ journal′ here z in
+      let still : r .transaction ≡ fromHost h = unmoved g (fromHost h) l r l′ same-sizes here z in
       let as-lent : withIntervention x (h .intervention) ≡ h =
       ap (λ (y : HostTransaction). withIntervention y (h .intervention)) (wrote ∙ ap toHost still) ∙ forth h k in
       subst Found (sym as-lent) (standing h still (sym (ap (λ (b : Bool). cond b h (toHost (fromHost h))) (eq-eqb (r .answer .visits) 0 z))))

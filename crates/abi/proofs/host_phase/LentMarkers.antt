@@ -9,14 +9,17 @@ use borrow.Author.Tests.{lt-ltb, ltb-true, ltb-false, ne-eqb}
 use lib.Dec.{ltb}
 use lib.ListN.{length, take, replicate}
 use lib.Seq.{take-length, length-take-le}
+use Rattle.reading.specs.declared.CallSettings.{CallSettings}
 use Rattle.reading.specs.declared.Marker.{Marker}
 use Rattle.reading.specs.Lists.{over}
-use Rattle.reading.specs.Records.{values, markerFrom, markerList, journalWords, dataWords}
-use Rattle.reading.specs.Call.{Call, ruleCount}
+use Rattle.reading.specs.Records.{markerFrom, markerList, journalWords, dataWords, givenOf, LentLists}
+use Rattle.reading.specs.Call.{Given, Call, ruleCount}
 use Rattle.reading.specs.Refusals.{refusalOf, refused1, refused2}
 use Rattle.reading.specs.Walk.{Visit, journalOf, dataOf}
-use Rattle.reading.specs.Outcome.{Outcome, visitsOf, outcomeOf, atFreeEnd, transactionAfter}
+use Rattle.reading.specs.Report.{noReport}
+use Rattle.reading.specs.Outcome.{Outcome, visitsOf, outcomeOf, atFreeEnd, transactionAfter, listsAfter}
 use Rattle.reading.specs.Demand3.{Demand3}
+use Rattle.lists.proofs.RecordLaws.{records-cons}
 use Rattle.theorems.specs.Demands.{demand3}
 use Rattle.control.specs.ControlsStruct.{Became}
 use Rattle.abi.specs.MarkerWords.{markerWords, wordsOf}
@@ -24,21 +27,13 @@ use Rattle.transaction.specs.declared.types.Transaction.{Transaction}
 use Rattle.transaction.specs.declared.types.Phase.{Phase}
 use Rattle.transaction.specs.RunPhase.{Ran, outcomeFound, callOf}
 use Rattle.transaction.proofs.Promise.{refused-visits}
-use Rattle.abi.specs.HostCall.{callLent, lentWords}
+use Rattle.abi.specs.HostCall.{lentWords}
 
 -- THE NUMBERS OF MARKERS
 
-values-same : {A : Type 0} (f g : ℕ → A) (n : ℕ) → ((i : ℕ) → f i ≡ g i) → values f n ≡ values g n
-values-same f g zero h = refl
-values-same {A} f g (suc n) h = ap (λ (a : A). a ∷ values (λ i. f (suc i)) n) (h zero)
-    ∙ ap (λ (l : List A). g zero ∷ l) (values-same (λ i. f (suc i)) (λ i. g (suc i)) n (λ i. h (suc i)))
-
 marker-cons : (x y z : ℕ) (rest : List ℕ) → markerList (x ∷ y ∷ z ∷ rest) ≡ record { name = record { start = x; len = y }; position = z } ∷ markerList rest
 unfolding markerList
-marker-cons x y z rest =
-    let n : length (x ∷ y ∷ z ∷ rest) / 3 ≡ suc (length rest / 3) = omega arith in
-    rw n (ap (λ (l : List Marker). record { name = record { start = x; len = y }; position = z } ∷ l)
-    (values-same (λ i. markerFrom (x ∷ y ∷ z ∷ rest) (suc i)) (markerFrom rest) (length rest / 3) next))
+marker-cons x y z rest = records-cons 3 markerFrom (x ∷ y ∷ z ∷ rest) rest (omega arith) next
   where
     next : (i : ℕ) → markerFrom (x ∷ y ∷ z ∷ rest) (suc i) ≡ markerFrom rest i
     next i =
@@ -87,39 +82,20 @@ unvisited q n = record {
   answer = n;
   error = 0;
   visits = 0;
-  journal = over (q .journal) [];
-  ids = atFreeEnd (q .transaction .ids) (q .ids) [];
-  data-entries = atFreeEnd (q .transaction .data-entries) (q .data-entries) [];
-  transaction = transactionAfter q [];
+  report = noReport;
+  transaction = transactionAfter (q .given) (q .transaction) [];
+  lists = listsAfter (q .given) (q .transaction) (q .lists) [];
 }
 
 refused-outcome : (q : Call) → (refusalOf q ≡ 0 → ⊥) → outcomeOf q ≡ unvisited q (refusalOf q)
 unfolding outcomeOf unvisited
 refused-outcome q h = rw (ne-eqb (refusalOf q) 0 h, refused-visits q h)
 
--- the same call with other markers
-abbrev withMarkers : Call → List Marker → Call
-withMarkers q ms = record {
-  reading = q .reading;
-  phase = q .phase;
-  mode = q .mode;
-  status = q .status;
-  rules = q .rules;
-  actions = q .actions;
-  markers = ms;
-  text = q .text;
-  outcomes = q .outcomes;
-  transaction = q .transaction;
-  ids = q .ids;
-  data-entries = q .data-entries;
-  journal = q .journal;
-}
-
 -- more than 256 markers: refusal 1 or 2
-many-refused : (q : Call) → 256 < length (q .markers) → refusalOf q ≡ cond (refused1 q) 1 2
+many-refused : (q : Call) → 256 < length (q .given .markers) → refusalOf q ≡ cond (refused1 q) 1 2
 unfolding refusalOf refused2
 many-refused q h =
-    by (refused1 q) (ltb 512 (ruleCount q)) (ltb 4096 (length (q .actions))) (ltb 256 (length (q .markers))) (lt-ltb 256 (length (q .markers)) h) (ltb 65536 (length (q .text))) _
+    by (refused1 q) (ltb 512 (ruleCount (q .given))) (ltb 4096 (length (q .given .actions))) (ltb 256 (length (q .given .markers))) (lt-ltb 256 (length (q .given .markers)) h) (ltb 65536 (length (q .given .text))) _
   where
     by : (a x y z : Bool) → z ≡ true → (w : Bool) (n : ℕ) → cond a 1 (cond (x || y || z || w) 2 n) ≡ cond a 1 2
     by true x y z e w n = refl
@@ -131,25 +107,33 @@ one-or-two : (b : Bool) → _≡_ {A = ℕ} (cond b 1 2) 0 → ⊥
 one-or-two true e = omega arith
 one-or-two false e = omega arith
 
-module _ (q : Call) (t : Transaction) (entries journal : List ℕ) (r : Phase) (ids′ entries′ journal′ : List ℕ) where
+module _ (call : CallSettings) (rules actions text outcomes : List ℕ) (t : Transaction) (l : LentLists) (r : Phase) (l′ : LentLists) where
+  abbrev given : List Marker → Given
+  given ms = givenOf call rules actions ms text outcomes
+
+  abbrev Left : List Marker → Type 0
+  Left ms = Ran (given ms) t l r l′
+
   -- what a call with many markers leaves, a call with other many markers leaves too
-  ran-many : (ms : List Marker) → 256 < length (q .markers) → 256 < length ms
-      → Ran q t entries journal r ids′ entries′ journal′ → Ran (withMarkers q ms) t entries journal r ids′ entries′ journal′
+  ran-many : (ms ms′ : List Marker) → 256 < length ms → 256 < length ms′ → Left ms → Left ms′
   unfolding unvisited refused1
-  ran-many ms h g ran =
+  ran-many ms ms′ h g ran =
       record {
         outcome = found;
-        journal-numbers = ran .journal-numbers ∙ ap (λ (vs : List Visit). over journal (journalWords (journalOf vs))) (none ∙ sym none′);
+        journal-numbers = ran .journal-numbers ∙ ap (λ (vs : List Visit). over (l .journal) (journalWords (journalOf vs))) (none ∙ sym none′);
         data-numbers = ran .data-numbers
-            ∙ ap (λ (vs : List Visit). atFreeEnd (4 * t .entries) entries (dataWords (dataOf q vs))) none
-            ∙ sym (ap (λ (vs : List Visit). atFreeEnd (4 * t .entries) entries (dataWords (dataOf q′ vs))) none′);
+            ∙ ap (λ (vs : List Visit). atFreeEnd (4 * t .entries) (l .entries) (dataWords (dataOf (given ms) vs))) none
+            ∙ sym (ap (λ (vs : List Visit). atFreeEnd (4 * t .entries) (l .entries) (dataWords (dataOf (given ms′) vs))) none′);
         controls = subst (λ (o : Outcome). Became (t .controls) (r .transaction .controls) (o .transaction .controls)) same (ran .controls);
         refused = λ n. ran .refused away;
         demand3 = subst (λ (o : Outcome). Demand3 q′ o) (sym found) (demand3 q′);
       }
     where
+      q : Call
+      q = callOf (given ms) t l
+
       q′ : Call
-      q′ = withMarkers q ms
+      q′ = callOf (given ms′) t l
 
       number : refusalOf q ≡ refusalOf q′
       number = many-refused q h ∙ sym (many-refused q′ g)
@@ -169,31 +153,22 @@ module _ (q : Call) (t : Transaction) (entries journal : List ℕ) (r : Phase) (
       same : outcomeOf q ≡ outcomeOf q′
       same = refused-outcome q away ∙ ap (unvisited q) number ∙ sym (refused-outcome q′ away′)
 
-      found : outcomeFound r ids′ entries′ journal′ ≡ outcomeOf q′
+      found : outcomeFound r l′ ≡ outcomeOf q′
       found = ran .outcome ∙ same
 
--- what the call on the first numbers of unpacked markers leaves, the call on the records leaves
-pub ran-lent : (phase mode status : ℕ) (rules actions : List ℕ) (ms : List Marker) (text outcomes : List ℕ) (t : Transaction) (ids entries journal : List ℕ)
-    (words : List ℕ) (r : Phase) (ids′ entries′ journal′ : List ℕ) → words ≡ take (lentWords (length ms)) (wordsOf ms)
-    → Ran (callOf phase mode status rules actions words text outcomes t ids entries journal) t entries journal r ids′ entries′ journal′
-    → Ran (callLent phase mode status rules actions ms text outcomes t ids entries journal) t entries journal r ids′ entries′ journal′
-ran-lent phase mode status rules actions ms text outcomes t ids entries journal words r ids′ entries′ journal′ e ran = by (ltb 257 (length ms)) refl
-  where
-    call : List Marker → Call
-    call l = callLent phase mode status rules actions l text outcomes t ids entries journal
+  -- what the call on the first numbers of unpacked markers leaves, the call on the records leaves
+  pub ran-lent : (ms : List Marker) (words : List ℕ) → words ≡ take (lentWords (length ms)) (wordsOf ms) → Left (markerList words) → Left ms
+  ran-lent ms words e ran = by (ltb 257 (length ms)) refl
+    where
+      read : (k : ℕ) → lentWords (length ms) ≡ 3 * k → k ≤ length ms → k ≤ 257 → Left (take k ms)
+      read k n h b = subst Left (ap markerList (e ∙ ap (λ (j : ℕ). take j (wordsOf ms)) n) ∙ first-markers k ms h b) ran
 
-    Left : List Marker → Type 0
-    Left l = Ran (call l) t entries journal r ids′ entries′ journal′
-
-    read : (k : ℕ) → lentWords (length ms) ≡ 3 * k → k ≤ length ms → k ≤ 257 → Left (take k ms)
-    read k n h b = subst Left (ap markerList (e ∙ ap (λ (j : ℕ). take j (wordsOf ms)) n) ∙ first-markers k ms h b) ran
-
-    by : (b : Bool) → ltb 257 (length ms) ≡ b → Left ms
-    by false o =
-        let h : length ms ≤ 257 = ltb-false 257 (length ms) o in
-        subst Left (take-length ms) (read (length ms) (ap (λ (c : Bool). cond c 771 (3 * length ms)) o) (omega arith) h)
-    by true o =
-        let h : 257 < length ms = ltb-true 257 (length ms) o in
-        let n : length (take 257 ms) ≡ 257 = length-take-le 257 ms (omega arith) in
-        ran-many (call (take 257 ms)) t entries journal r ids′ entries′ journal′ ms (omega (arith, n)) (omega arith)
-        (read 257 (ap (λ (c : Bool). cond c 771 (3 * length ms)) o) (omega arith) (omega arith))
+      by : (b : Bool) → ltb 257 (length ms) ≡ b → Left ms
+      by false o =
+          let h : length ms ≤ 257 = ltb-false 257 (length ms) o in
+          subst Left (take-length ms) (read (length ms) (ap (λ (c : Bool). cond c 771 (3 * length ms)) o) (omega arith) h)
+      by true o =
+          let h : 257 < length ms = ltb-true 257 (length ms) o in
+          let n : length (take 257 ms) ≡ 257 = length-take-le 257 ms (omega arith) in
+          ran-many (take 257 ms) ms (omega (arith, n)) (omega arith)
+          (read 257 (ap (λ (c : Bool). cond c 771 (3 * length ms)) o) (omega arith) (omega arith))

@@ -5,12 +5,12 @@ use mathlib.Core.Bool.{true}
 use mathlib.Core.List.{List, map}
 use lib.ListN.{length, length-map}
 use denote.Ref.{now}
-use Rattle.reading.specs.Call.{Call}
+use Rattle.reading.specs.Records.{markerList, givenOf, LentLists, lent}
+use Rattle.reading.specs.Call.{Given}
 use Rattle.control.proofs.Determined.{SameSizes}
 use Rattle.abi.specs.HostControls.{controlsFromHost}
 use Rattle.abi.specs.declared.host_phase.HostPhase.{HostPhase}
-use Rattle.transaction.specs.declared.types.Transaction.{Transaction}
-use Rattle.transaction.specs.RunPhase.{callOf, Ran}
+use Rattle.transaction.specs.RunPhase.{answerWithout, Ran}
 use borrow.Author.Needs.{needs}
 use borrow.Author.Tests.{not-true, not-false}
 use Rattle.abi.specs.HostRecord.{known, fromHost}
@@ -29,12 +29,20 @@ read c = c .before .before .before .before
 abbrev entered : tie.After-run-phase → tie.Start
 entered c = begun (read c .before .before .before)
 
--- the call on a transaction and so many numbers of markers
-abbrev callAt : tie.Start → List ℕ → Transaction → Call
-callAt s words t =
+-- what is given, with so many numbers of markers, and the lists as lent
+abbrev givenAt : tie.Start → List ℕ → Given
+givenAt s words =
     let a = s .args in
-    callOf (a .phase) (a .mode) (a .default-status) (now (a .rules)) (now (a .actions)) words (now (a .text)) (now (a .outcomes)) t
-    (now (a .ids)) (now (a .entries)) (now (a .journal))
+    givenOf (a .call) (now (a .rules)) (now (a .actions)) (markerList words) (now (a .text)) (now (a .outcomes))
+
+abbrev lentAt : tie.Start → LentLists
+lentAt s = lent (now (s .args .ids)) (now (s .args .entries)) (now (s .args .journal))
+
+-- the lists that the call left
+abbrev leftAt : tie.After-run-phase → LentLists
+leftAt c =
+    let lists = c .run-phase .last .1 .1 .1 .1 .1 .1 .1 in
+    lent (lists .0) (lists .1 .0) (lists .1 .1 .0)
 
 -- the arrays of a record and of a transaction are as long as their types say
 abbrev long : (xs : List ℕ) (n : ℕ) → length (map (λ v. v) xs) ≡ n → length xs ≡ n
@@ -64,12 +72,9 @@ is-known c =
 -- what the call promises, of the markers that are lent on
 abbrev Made : tie.After-run-phase → List ℕ → Type 0
 Made c words =
-    let a = entered c .args in
-    let t = read c .from-host .result in
-    let lists = c .run-phase .last .1 .1 .1 .1 .1 .1 .1 .1 .1 in
-    Ran (callAt (entered c) words t) t (now (a .entries)) (now (a .journal)) (c .run-phase .result) (lists .0) (lists .1 .0) (lists .1 .1 .0)
+    Ran (givenAt (entered c) words) (read c .from-host .result) (lentAt (entered c)) (c .run-phase .result) (leftAt c)
 
-made : (c : tie.After-run-phase) → Made c (lentPart (entered c .args .t7))
+made : (c : tie.After-run-phase) → Made c (lentPart (entered c .args .t5))
 made c = subst (Made c) (read c .before .before .before .lent-words .ensures) (c .run-phase .ensures)
 
 lent-words-requires : tie.Need-lent-words-requires
@@ -94,18 +99,16 @@ as-lent-requires c κs = search needs
 abbrev Unknown : tie.After-unknown-answer → HostPhase → List ℕ → Type 0
 Unknown c r words =
     let s = begun (c .before .before .before .before .before) in
-    let a = s .args in
-    HostRan (a .h) (callAt s words (fromHost (a .h))) (now (a .ids)) (now (a .entries)) (now (a .journal))
-    (r .answer) (r .transaction) (now (a .ids)) (now (a .entries)) (now (a .journal))
+    HostRan (s .args .h) (givenAt s words) (lentAt s) (r .answer) (r .transaction) (lentAt s)
 
 unknown : (c : tie.After-unknown-answer) → Unknown c
-    (record { answer = record { answer = c .unknown-answer .result; error = 0; visits = 0 }; transaction = begun (c .before .before .before .before .before) .args .h })
+    (record { answer = answerWithout (c .unknown-answer .result); transaction = begun (c .before .before .before .before .before) .args .h })
     (now (c .before .before .before .before .before .lent-words .result))
 unknown c =
     let k = c .before .before .before .before in
-    let a = begun (k .before) .args in
-    ran-unknown (a .phase) (a .mode) (a .default-status) (now (a .rules)) (now (a .actions)) (now (k .before .lent-words .result)) (now (a .text))
-    (now (a .outcomes)) (a .h) (now (a .ids)) (now (a .entries)) (now (a .journal))
+    let s = begun (k .before) in
+    let a = s .args in
+    ran-unknown (a .call) (now (a .rules)) (now (a .actions)) (now (k .before .lent-words .result)) (now (a .text)) (now (a .outcomes)) (a .h) (lentAt s)
     (c .unknown-answer .result) (c .before .before .counts-of .result) (c .before .sizes-of .result) (c .before .before .counts-of .ensures)
     (c .before .sizes-of .ensures) (sym (k .is-known .ensures) ∙ not-true _ (c .before .before .before .if1 .taken)) (c .unknown-answer .ensures)
 
@@ -113,7 +116,7 @@ returns : tie.Need-returns
 returns c =
     let u = c .before in
     let l = u .before .before .before .before .before in
-    subst (λ (r : HostPhase). Unknown u r (lentPart (begun l .args .t7))) (sym (c .as-lent .ensures))
+    subst (λ (r : HostPhase). Unknown u r (lentPart (begun l .args .t5))) (sym (c .as-lent .ensures))
     (subst (Unknown u _) (l .lent-words .ensures) (unknown u))
 
 from-host-requires : tie.Need-from-host-requires
@@ -137,12 +140,10 @@ same-length-3 c = search needs
 returns-2 : tie.Need-returns-2
 returns-2 c =
     let p = c .before .before .before .before .before .before .before .before .before .before .before .before in
-    let a = entered p .args in
-    let lists = p .run-phase .last .1 .1 .1 .1 .1 .1 .1 .1 .1 in
+    let s = entered p in
     let wrote = c .before .before .before .to-host in
-    unvisited (a .h) (read p .from-host .result) (read p .from-host .ensures) (callAt (entered p) (lentPart (a .t7))) (λ x. refl)
-    (now (a .ids)) (now (a .entries)) (now (a .journal)) (lists .0) (lists .1 .0) (lists .1 .1 .0)
-    (p .run-phase .result) (is-known p) (sizes p) (made p) (c .before .if2 .taken) (wrote .result) (wrote .ensures)
+    unvisited (givenAt s (lentPart (s .args .t5))) (s .args .h) (read p .from-host .result) (read p .from-host .ensures) (lentAt s)
+    (p .run-phase .result) (leftAt p) (is-known p) (sizes p) (made p) (c .before .if2 .taken) (wrote .result) (wrote .ensures)
 
 same-length-4 : tie.Need-same-length-4
 same-length-4 c = search needs
@@ -156,12 +157,10 @@ same-length-6 c = search needs
 returns-3 : tie.Need-returns-3
 returns-3 c =
     let p = c .before .before .before .before .before .before .before .before .before .before .before in
-    let a = entered p .args in
-    let lists = p .run-phase .last .1 .1 .1 .1 .1 .1 .1 .1 .1 in
+    let s = entered p in
     let wrote = c .before .before .to-host in
-    visited (a .h) (read p .from-host .result) (read p .from-host .ensures) (callAt (entered p) (lentPart (a .t7))) (λ x. refl)
-    (now (a .ids)) (now (a .entries)) (now (a .journal)) (lists .0) (lists .1 .0) (lists .1 .1 .0)
-    (p .run-phase .result) (is-known p) (sizes p) (made p) (c .if2 .left) (wrote .result) (wrote .ensures)
+    visited (givenAt s (lentPart (s .args .t5))) (s .args .h) (read p .from-host .result) (read p .from-host .ensures) (lentAt s)
+    (p .run-phase .result) (leftAt p) (is-known p) (sizes p) (made p) (c .if2 .left) (wrote .result) (wrote .ensures)
 
 pub host-phase-spec : {M : Type 1} → statement M
 host-phase-spec =
