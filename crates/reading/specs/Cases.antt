@@ -3,3 +3,4 @@ pub mod Table
 pub mod Points
 pub mod Reader
 pub mod Differences
+pub mod Metadata
