@@ -2,3 +2,5 @@ pub mod Build
 pub mod Table
 pub mod Points
 pub mod Reader
+pub mod Differences
+pub mod Metadata

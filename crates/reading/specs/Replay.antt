@@ -74,6 +74,6 @@ replayedAllow g journal = any (unitAllows g) (unitsOf g journal)
 
 -- "exactly when the last visit closed a unit whose starter's last disruptive action is deny, block, redirect or drop, with
 -- mode On after that unit's controls; it is then the one 01 builds from that unit". The last visit's unit is the last
--- unit, so the controls after it are those after all units.
+-- unit, so the controls after it are those after all units (`last-closed-is-last` in crates/theorems).
 abbrev pub replayedIntervention : Given → Transaction → List JournalEntry → OptionIntervention
 replayedIntervention g t journal = stopOf g (lastClosed g journal) (replayedControls g t journal)

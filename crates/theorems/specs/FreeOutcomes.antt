@@ -1,11 +1,12 @@
 -- 01's domain: "each rule that the Rust run evaluates has that run's outcome; the other rules' outcomes are free." The
 -- outcomes of rules that are passed or removed have no influence, for any reading.
-use Prim.Native.Nat.{ℕ, zero, suc}
+use Prim.Native.Nat.{ℕ, zero, suc, _+_}
 use mathlib.Core.Path.{_≡_, refl, sym, ap, subst, _∙_}
 use mathlib.Core.List.{List, [], _∷_, _++_}
 use mathlib.Core.Logic.{_⊎_, inl, inr}
-use mathlib.Core.Bool.{Bool, true, false, not, cond, _&&_}
+use mathlib.Core.Bool.{Bool, true, false, not, cond, _&&_, _||_}
 use native.Mathlib.Omega.{arith}
+use lib.ListN.{length}
 use lib.Dec.{eqb}
 use Rattle.reading.specs.declared.Verdict.{Verdict}
 use Rattle.reading.specs.declared.OptionU64.{OptionU64}
@@ -14,14 +15,16 @@ use Rattle.reading.specs.declared.FlowOutcome.{FlowOutcome}
 use Rattle.reading.specs.declared.Intervention.{Intervention}
 use Rattle.reading.specs.declared.JournalEntry.{JournalEntry}
 use Rattle.reading.specs.declared.DataEntry.{DataEntry}
-use Rattle.reading.specs.Lists.{keep, gather}
+use Rattle.reading.specs.Lists.{keep, gather, any, over}
 use Rattle.reading.specs.Numbers.{verdictNumber}
 use Rattle.reading.specs.Controls.{Controls, isRemoved, isOn}
 use Rattle.reading.specs.Actions.{Placed, controlsIn, lastDisruptive}
 use Rattle.reading.specs.Markers.{markerPosition}
-use Rattle.reading.specs.Call.{Given, Transaction, ruleCount, ruleAt, isLink, idAt, outcomeAt, actionsAt, modeUnder}
+use Rattle.reading.specs.Call.{Given, Call, Transaction, ruleCount, ruleAt, isLink, idAt, outcomeAt, actionsAt, modeUnder}
+use Rattle.reading.specs.Refusals.{badOutcome, refused1, refused2, refused3, refused4, refused5, refused6, refused7, refused8, refused9, ruleTotal, refusalOf, isAccepted}
 use Rattle.reading.specs.Units.{starterOf, memberData, dataEntry, unitData, actionControls, ruleControls, unitControls, unitFlow, unitDisruptive, unitIntervention, stopStatus, isAllow, isStopping}
-use Rattle.reading.specs.Walk.{State, Visit, allows, goesOn, stops, isLast, verdictBy, verdictAt, afterChain, jumpFrom, markerName, afterFlow, endingBy, visitBy, visitAt, isVisited, walk, walkOf, start, nothingToDo, entryOf, journalOf, closedIn, dataOf}
+use Rattle.reading.specs.Walk.{State, Visit, allows, goesOn, stops, isLast, verdictBy, verdictAt, afterChain, jumpFrom, markerName, afterFlow, endingBy, visitBy, visitAt, isVisited, walk, walkOf, start, nothingToDo, entryOf, journalOf, closedIn, idsOf, dataOf, controlsAfter, allowedBy, interventionBy, answerBy, errorIndexBy}
+use Rattle.reading.specs.Outcome.{visitsOf, outcomeOf, atFreeEnd, ifNone}
 
 -- the same with other outcomes
 abbrev pub withOutcomes : List ℕ → Given → Given
@@ -268,3 +271,70 @@ module _ (outcomes : List ℕ) (q : Given) where
   data-free t h =
       units-data (closedIn (walkOf q t))
       (kept-members (not (nothingToDo q t)) (walk (ruleCount q) q (start t)) (walk-members (ruleCount q) (start t) tt) h)
+
+-- THE WHOLE OUTCOME OF A CALL
+
+-- the call with other outcomes
+abbrev pub callWithOutcomes : List ℕ → Call → Call
+callWithOutcomes outcomes q = record { given = withOutcomes outcomes (q .given); transaction = q .transaction; lists = q .lists }
+
+-- no refusal looks at more of the outcomes than how many there are and whether one is unknown
+pub refusals-free : (outcomes : List ℕ) (q : Call) → length outcomes ≡ length (q .given .outcomes)
+    → any badOutcome outcomes ≡ any badOutcome (q .given .outcomes)
+    → refusalOf (callWithOutcomes outcomes q) ≡ refusalOf q
+unfolding refusalOf refused1 refused2 refused3 refused4 refused5 refused6 refused7 refused8 refused9 ruleTotal
+refusals-free outcomes q h k = rw (h, k)
+
+module _ (outcomes : List ℕ) (q : Call) (known : SameOutcomes (q .given) (withOutcomes outcomes (q .given)) (journalOf (visitsOf q))) where
+  -- the visits, and the data, of a call that is refused alike
+  visits-free : refusalOf (callWithOutcomes outcomes q) ≡ refusalOf q → visitsOf (callWithOutcomes outcomes q) ≡ visitsOf q
+  unfolding visitsOf
+  visits-free h =
+      ap (λ (n : ℕ). keep (eqb n 0) (walkOf (withOutcomes outcomes (q .given)) (q .transaction))) h
+      ∙ kept-same outcomes (q .given) (isAccepted q) (walkOf (withOutcomes outcomes (q .given)) (q .transaction)) (walkOf (q .given) (q .transaction)) (outcomes-free outcomes (q .given) (q .transaction)) known
+
+  visits-data : dataOf (withOutcomes outcomes (q .given)) (visitsOf q) ≡ dataOf (q .given) (visitsOf q)
+  unfolding visitsOf
+  visits-data = by (isAccepted q) known
+    where
+      by : (b : Bool) → SameOutcomes (q .given) (withOutcomes outcomes (q .given)) (journalOf (keep b (walkOf (q .given) (q .transaction))))
+          → dataOf (withOutcomes outcomes (q .given)) (keep b (walkOf (q .given) (q .transaction))) ≡ dataOf (q .given) (keep b (walkOf (q .given) (q .transaction)))
+      by true k = data-free outcomes (q .given) (q .transaction) k
+      by false k = refl
+
+  entries-free : refusalOf (callWithOutcomes outcomes q) ≡ refusalOf q
+      → dataOf (withOutcomes outcomes (q .given)) (visitsOf (callWithOutcomes outcomes q)) ≡ dataOf (q .given) (visitsOf q)
+  entries-free h = ap (λ (vs : List Visit). dataOf (withOutcomes outcomes (q .given)) vs) (visits-free h) ∙ visits-data
+
+  -- a call that is refused alike, or not at all, has the same outcome: answer, error, visits, transaction and lists
+  refused-alike : refusalOf (callWithOutcomes outcomes q) ≡ refusalOf q → outcomeOf (callWithOutcomes outcomes q) ≡ outcomeOf q
+  unfolding outcomeOf idAt ruleAt
+  refused-alike h =
+      let t : Transaction = q .transaction in
+      let visits : visitsOf (callWithOutcomes outcomes q) ≡ visitsOf q = visits-free h in
+      let entries = entries-free h in
+      λ i. record {
+        answer = cond (eqb (h i) 0) (answerBy (visits i)) (h i);
+        error = errorIndexBy (visits i);
+        visits = length (visits i);
+        transaction = record {
+          controls = controlsAfter (t .controls) (visits i);
+          allowed = t .allowed || allowedBy (visits i);
+          intervention = ifNone (interventionBy (visits i)) (t .intervention);
+          ids = t .ids + length (idsOf (q .given) (visits i));
+          data-entries = t .data-entries + length (entries i);
+        };
+        lists = record {
+          ids = atFreeEnd (t .ids) (q .lists .ids) (idsOf (q .given) (visits i));
+          data-entries = atFreeEnd (t .data-entries) (q .lists .data-entries) (entries i);
+          journal = over (q .lists .journal) (journalOf (visits i));
+        };
+      }
+
+-- with other outcomes, as many and as well known, that are the same for every rule that is visited and not removed, the whole
+-- outcome is the same, for a refused call too
+pub call-free : (outcomes : List ℕ) (q : Call) → length outcomes ≡ length (q .given .outcomes)
+    → any badOutcome outcomes ≡ any badOutcome (q .given .outcomes)
+    → SameOutcomes (q .given) (withOutcomes outcomes (q .given)) (journalOf (visitsOf q))
+    → outcomeOf (callWithOutcomes outcomes q) ≡ outcomeOf q
+call-free outcomes q h k known = refused-alike outcomes q known (refusals-free outcomes q h k)

@@ -1,4 +1,5 @@
 pub mod Replayed
+pub mod LastUnit
 pub mod Rising
 pub mod WithinLimits
 pub mod Answers

@@ -17,16 +17,22 @@ use Rattle.reading.specs.declared.Verdict.{Verdict}
 use Rattle.reading.specs.declared.FlowOutcome.{FlowOutcome}
 use Rattle.reading.specs.declared.DisruptiveOutcome.{DisruptiveOutcome}
 use Rattle.reading.specs.declared.IdPart.{IdPart}
-use Rattle.reading.specs.Text.{idParts, idPart, isBad, rangeIn, anyBad, rangesIn}
-use Rattle.reading.specs.Directive.{ruleRemoveById, unsupported}
+use Rattle.reading.specs.declared.Number.{Number}
+use Rattle.reading.specs.declared.Rule.{Rule}
+use Rattle.reading.specs.declared.Action.{Action}
+use Rattle.reading.specs.declared.OptionIntervention.{OptionIntervention}
+use Rattle.reading.specs.Text.{ascii, same, trim, fold, digits, idParts, idPart, isBad, rangeIn, anyBad, rangesIn}
+use Rattle.reading.specs.Directive.{Directive, ruleRemoveById, unsupported, directiveNamed, directiveOf}
 use Rattle.reading.specs.Controls.{Controls, isOn, isOff}
 use Rattle.reading.specs.Actions.{Placed, kindOf, lastFrom, lastOf, isFlow, flowBy, lastFlow, lastStatus}
+use Rattle.reading.specs.Markers.{later}
 use Rattle.reading.specs.Reading.{Reading, rust, manual, jumps, rustStatus, manualStatus}
-use Rattle.reading.specs.Call.{Given, Call, Transaction, ruleCount, ruleAt, isLink, noRule, modeUnder}
-use Rattle.reading.specs.Walk.{State, goesOn, allows, stops, isLast, afterChain, afterFlow, endingBy, visitBy, isStopped, nothingToDo}
-use Rattle.reading.specs.Units.{isAllow, isStopping, stopStatus, unitIntervention}
-use Rattle.reading.specs.Refusals.{refusalOf, refused1, refused2, refused3, refused4, refused5, refused6, refused7, refused8, refused9, ruleTotal}
-use Rattle.reading.specs.Manual.{manualJumps, manualSkip, rustSkip, manualActs, rustActs, manualRedirectStatus, rustRedirectStatus, manualMatched, rustLink, rustClosed, manualFlow, rustFlow, manualEnters, rustEnters, manualStops, rustStops, manualRemovalBy, manualRemoval, rustRemoval}
+use Rattle.reading.specs.Call.{Given, Call, Transaction, ruleCount, ruleAt, isLink, actionsAt, noRule, modeUnder}
+use Rattle.reading.specs.Walk.{State, goesOn, allows, stops, isLast, interventionOr, afterChain, jumpFrom, markerName, afterFlow, endingBy, visitBy, isStopped, nothingToDo}
+use Rattle.reading.specs.Units.{starterOf, unitFlow, isAllow, isStopping, stopStatus, unitIntervention}
+use Rattle.reading.specs.Refusals.{refusalOf, refused1, refused2, refused3, refused4, refused5, refused6, refused7, refused8, refused9, ruleTotal, outside, outsideText, numberLimit, badRule, badAction}
+use Rattle.reading.specs.Manual.{manualJumps, manualRuleNamed, manualTarget, rustTarget, manualSkip, rustSkip, manualActs, rustActs, manualRedirectStatus, rustRedirectStatus, manualMatched, rustLink, rustClosed, manualFlow, rustFlow, manualEnters, rustEnters, manualStops, rustStops, manualRemovalBy, manualRemoval, rustRemoval, rustDirectives, manualNames, rustNames, manualTakesId, rustTakesId, manualTakesMetadata, rustTakesMetadata, manualTakesNumber, rustTakesNumber}
+use Rattle.lists.proofs.Tests.{any-append}
 
 -- actions among which there is neither chain nor multiMatch
 abbrev pub NoChain : List Placed → Type 0
@@ -143,7 +149,30 @@ removals-agree value h =
     by IdPart.Bad = refl
     by (IdPart.Range r) = refl
 
--- THE RUST'S RULES OF Manual.antt ARE THE WALK'S
+-- a name that is no number leads to the same place
+pub targets-agree : (q : Given) (name : List ℕ) → digits name ≡ Number.Bad → manualTarget q name ≡ rustTarget q name
+targets-agree q name h = ap (λ (n : Number). later (rustTarget q name) (manualRuleNamed (q .rules) n)) h ∙ by (rustTarget q name)
+  where
+    by : (found : OptionU64) → later found OptionU64.None ≡ found
+    by OptionU64.None = refl
+    by (OptionU64.Some position) = refl
+
+-- what the Rust calls a directive the manual does too
+pub names-agree : (name : List ℕ) → rustNames name ≡ true → manualNames name ≡ true
+names-agree name h = rw (any-append, h)
+
+-- rules with an id are taken alike, and starters' metadata, and the numbers of kinds other than severity, maturity and accuracy
+pub ids-agree : (member : Bool) (r : Rule) → r .present ≡ 1 → manualTakesId member r ≡ rustTakesId r
+ids-agree true r h = rw h
+ids-agree false r h = rw h
+
+pub metadata-agree : (kind : ℕ) → manualTakesMetadata false kind ≡ rustTakesMetadata false kind
+metadata-agree kind = refl
+
+pub numbers-agree : (kind number : ℕ) → (kind ≡ 16 → ⊥) → (kind ≡ 17 → ⊥) → (kind ≡ 18 → ⊥) → manualTakesNumber kind number ≡ rustTakesNumber kind number
+numbers-agree kind number a b c = rw (ne-eqb kind 16 a, ne-eqb kind 17 b, ne-eqb kind 18 c)
+
+-- THE RUST'S RULES OF Manual.antt ARE THE WALK'S, THE READER'S AND THE REFUSALS'
 
 pub walk-skips : (q : Given) (after n : ℕ) → afterFlow q after (FlowOutcome.Skip n) ≡ rustSkip after n
 walk-skips q after n = refl
@@ -156,17 +185,35 @@ walk-acts q unit c d = by (isAllow d) (isStopping d && isOn (modeUnder q c))
     by false true = refl
     by false false = refl
 
--- a call that is not entered has nothing to do
-pub walk-enters : (q : Given) (t : Transaction) → rustEnters t ≡ false → nothingToDo q t ≡ true
-walk-enters q t h =
-    by (t .allowed) (isStopped (t .intervention)) (isOff (modeUnder q (t .controls))) (eqb (ruleCount q) 0) h
+-- whether a unit stops the request is no matter of the phase
+pub walk-stops : (q : Given) (unit : List ℕ) (c : Controls) (d : DisruptiveOutcome)
+    → isStopped (interventionOr (endingBy q unit c d) OptionIntervention.None) ≡ (rustStops q && isStopping d && isOn (modeUnder q c))
+walk-stops q unit c d = by d (isOn (modeUnder q c))
   where
-    by : (a b c d : Bool) → not (a || b) ≡ false → (a || b || c || d) ≡ true
-    by true b c d e = refl
-    by false true c d e = refl
-    by false false c d e = absurd (let y : _≡_ {A = ℕ} 0 1 = cc in omega arith)
+    by : (d : DisruptiveOutcome) (on : Bool)
+        → isStopped (interventionOr (cond (isAllow d) allows (cond (isStopping d && on) (stops (unitIntervention q unit)) goesOn)) OptionIntervention.None) ≡ (isStopping d && on)
+    by DisruptiveOutcome.Nothing on = refl
+    by DisruptiveOutcome.Deny true = refl
+    by DisruptiveOutcome.Deny false = refl
+    by DisruptiveOutcome.Block true = refl
+    by DisruptiveOutcome.Block false = refl
+    by DisruptiveOutcome.Pass on = refl
+    by DisruptiveOutcome.Allow on = refl
+    by (DisruptiveOutcome.Redirect at) true = refl
+    by (DisruptiveOutcome.Redirect at) false = refl
+    by DisruptiveOutcome.Drop true = refl
+    by DisruptiveOutcome.Drop false = refl
 
-pub walk-link : (q : Given) (st : State) → visitBy q st Verdict.Matched true .after .controls ≡ rustLink (st .controls)
+twice-not : (b : Bool) → b ≡ not (not b)
+twice-not true = refl
+twice-not false = refl
+
+-- a call has something to do exactly where it is entered, the mode is not Off and there are rules
+pub walk-enters : (q : Given) (t : Transaction)
+    → nothingToDo q t ≡ (not (rustEnters t) || isOff (modeUnder q (t .controls)) || eqb (ruleCount q) 0)
+walk-enters q t = rw (← twice-not (t .allowed || isStopped (t .intervention)))
+
+pub walk-link : (q : Given) (st : State) → visitBy q st Verdict.Matched true .after .controls ≡ rustLink q (st .next) (st .controls)
 walk-link q st = refl
 
 pub walk-closed : (q : Given) (st : State) → visitBy q st Verdict.Matched false .after .controls ≡ rustClosed q (st .members ++ (st .next ∷ [])) (st .controls)
@@ -174,6 +221,49 @@ walk-closed q st = refl
 
 pub walk-redirects : (q : Given) (ps : List Placed) (at : ℕ) → stopStatus q ps (DisruptiveOutcome.Redirect at) ≡ rustRedirectStatus (lastStatus ps)
 walk-redirects q ps at = refl
+
+-- where a name leads
+pub walk-targets : (q : Given) (after position : ℕ) → afterFlow q after (FlowOutcome.SkipAfter position) ≡ jumpFrom q after (rustTarget q (markerName q position))
+walk-targets q after position = refl
+
+-- a unit's flow
+pub walk-flows : (q : Given) (unit : List ℕ) → unitFlow q unit ≡ rustFlow (actionsAt q (starterOf unit))
+unfolding unitFlow
+walk-flows q unit = refl
+
+-- a directive of another name is unsupported
+pub reader-names : (name value : List ℕ) → rustNames name ≡ false → directiveOf name value ≡ unsupported
+unfolding directiveOf
+reader-names name value h =
+    let w : List ℕ = fold (trim name) in
+    by (same w (ascii "ruleengine")) (same w (ascii "ruleremovebyid")) (same w (ascii "ruleremovetargetbyid")) (same w (ascii "requestbodyaccess")) (same w (ascii "requestbodyprocessor")) _ _ _ _ _ h
+  where
+    by : (a b c d e : Bool) (va vb vc vd ve : Directive) → (a || (b || (c || (d || (e || false))))) ≡ false
+        → cond a va (cond b vb (cond c vc (cond d vd (cond e ve unsupported)))) ≡ unsupported
+    by true b c d e va vb vc vd ve h = absurd (let z : _≡_ {A = ℕ} 0 1 = cc in omega arith)
+    by false true c d e va vb vc vd ve h = absurd (let z : _≡_ {A = ℕ} 0 1 = cc in omega arith)
+    by false false true d e va vb vc vd ve h = absurd (let z : _≡_ {A = ℕ} 0 1 = cc in omega arith)
+    by false false false true e va vb vc vd ve h = absurd (let z : _≡_ {A = ℕ} 0 1 = cc in omega arith)
+    by false false false false true va vb vc vd ve h = absurd (let z : _≡_ {A = ℕ} 0 1 = cc in omega arith)
+    by false false false false false va vb vc vd ve h = refl
+
+-- and a removal's value is read so
+pub reader-removals : (value : List ℕ) → directiveNamed (ascii "ruleremovebyid") value ≡ rustRemoval value
+unfolding same
+reader-removals value = refl
+
+-- refusal 5 takes the rules that the Rust takes
+pub refusal-ids : (actions : ℕ) (r : Rule) → badRule actions r ≡ (not (rustTakesId r) || ltb 1 (r .link) || outside actions (r .first) (r .count))
+refusal-ids actions r = rw (← twice-not (ltb 1 (r .present)))
+
+pub refusal-numbers : (bytes : ℕ) (a : Action) (member : Bool)
+    → badAction bytes a ≡ (ltb 20 (a .kind) || not (rustTakesMetadata member (a .kind)) || not (rustTakesNumber (a .kind) (a .number)) || outsideText bytes (a .text) || outsideText bytes (a .value))
+refusal-numbers bytes a member = by (ltb 20 (a .kind)) (ltb (numberLimit (a .kind)) (a .number)) (outsideText bytes (a .text)) (outsideText bytes (a .value))
+  where
+    by : (b c d e : Bool) → (b || c || d || e) ≡ (b || false || not (not c) || d || e)
+    by true c d e = refl
+    by false true d e = refl
+    by false false d e = refl
 
 -- WHAT DOES NOT DEPEND ON THE READING
 

@@ -106,7 +106,7 @@ not-last (stops i) other h = absurd (bool-absurd h)
 
 -- SEVERAL VISITS
 
-controls-append : (q : Given) (us vs : List (List ℕ)) (c : Controls) → unitsControls q (us ++ vs) c ≡ unitsControls q vs (unitsControls q us c)
+pub controls-append : (q : Given) (us vs : List (List ℕ)) (c : Controls) → unitsControls q (us ++ vs) c ≡ unitsControls q vs (unitsControls q us c)
 controls-append q [] vs c = refl
 controls-append q (u ∷ us) vs c = controls-append q us vs (unitControls q u c)
 
