@@ -10,6 +10,7 @@ use crate::case_text::Case;
 use crate::case_text::Step;
 use crate::case_walk::Words;
 use libc::STDIN_FILENO;
+use reading::CallSettings;
 use reading::OptionIntervention;
 use transaction::run_phase;
 use transaction::types::Phase;
@@ -59,11 +60,14 @@ fn run_records(
     let mut entries = [0u64; 64];
     let mut journal = [0u64; 32];
     let t = new_transaction(c);
+    let call = CallSettings {
+        phase: c.phase,
+        mode: c.mode,
+        default_status: c.status,
+    };
     let p = run_phase::run_phase(
         t,
-        c.phase,
-        c.mode,
-        c.status,
+        call,
         rules,
         actions,
         markers,

@@ -164,9 +164,9 @@ pub fn first_refusal(
 ) -> u64
     ensures { λ r. ⌜ ((t : Transaction) (lists : Lists) → Sized t lists sizes
         → r ≡ firstOfSeven (record {
-        given = givenOf call (now (rules .entry)) (now (actions .entry)) (markerList (now (markers .entry))) (now (text .entry)) (now (outcomes .entry));
-        transaction = t;
-        lists = lists;
+          given = givenOf call (now (rules .entry)) (now (actions .entry)) (markerList (now (markers .entry))) (now (text .entry)) (now (outcomes .entry));
+          transaction = t;
+          lists = lists;
         })) ⌝ }
 {
     let n = rules.len() / widths::RULE;

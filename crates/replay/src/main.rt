@@ -36,6 +36,7 @@ use control::state::Controls;
 use control::state::Settings;
 use libc::STDIN_FILENO;
 use libc::STDOUT_FILENO;
+use reading::CallSettings;
 use reading::OptionIntervention;
 use transaction::run_phase;
 use transaction::types::Phase;
@@ -239,11 +240,14 @@ fn run_given(
     entries: &mut [u64],
     journal: &mut [u64],
 ) -> Phase {
+    let call = CallSettings {
+        phase: g.phase,
+        mode: g.mode,
+        default_status: g.status,
+    };
     run_phase::run_phase(
         t,
-        g.phase,
-        g.mode,
-        g.status,
+        call,
         replay_line::items(list, g.rules, 5),
         replay_line::items(list, g.actions, 6),
         replay_line::items(list, g.markers, 3),
