@@ -24,6 +24,7 @@ use Rattle.reading.specs.Call.{Given, Call, Transaction, ruleCount, ruleAt, isL
 use Rattle.reading.specs.Refusals.{badOutcome, refused1, refused2, refused3, refused4, refused5, refused6, refused7, refused8, refused9, ruleTotal, refusalOf, isAccepted}
 use Rattle.reading.specs.Units.{starterOf, memberData, dataEntry, unitData, actionControls, ruleControls, unitControls, unitFlow, unitDisruptive, unitIntervention, stopStatus, isAllow, isStopping}
 use Rattle.reading.specs.Walk.{State, Visit, allows, goesOn, stops, isLast, verdictBy, verdictAt, afterChain, jumpFrom, markerName, afterFlow, endingBy, visitBy, visitAt, isVisited, walk, walkOf, start, nothingToDo, entryOf, journalOf, closedIn, idsOf, dataOf, controlsAfter, allowedBy, interventionBy, answerBy, errorIndexBy}
+use Rattle.reading.specs.Report.{reportBy}
 use Rattle.reading.specs.Outcome.{visitsOf, outcomeOf, atFreeEnd, ifNone}
 
 -- the same with other outcomes
@@ -306,7 +307,7 @@ module _ (outcomes : List ℕ) (q : Call) (known : SameOutcomes (q .given) (with
       → dataOf (withOutcomes outcomes (q .given)) (visitsOf (callWithOutcomes outcomes q)) ≡ dataOf (q .given) (visitsOf q)
   entries-free h = ap (λ (vs : List Visit). dataOf (withOutcomes outcomes (q .given)) vs) (visits-free h) ∙ visits-data
 
-  -- a call that is refused alike, or not at all, has the same outcome: answer, error, visits, transaction and lists
+  -- a call that is refused alike, or not at all, has the same outcome: answer, error, visits, report, transaction and lists
   refused-alike : refusalOf (callWithOutcomes outcomes q) ≡ refusalOf q → outcomeOf (callWithOutcomes outcomes q) ≡ outcomeOf q
   unfolding outcomeOf idAt ruleAt
   refused-alike h =
@@ -317,6 +318,7 @@ module _ (outcomes : List ℕ) (q : Call) (known : SameOutcomes (q .given) (with
         answer = cond (eqb (h i) 0) (answerBy (visits i)) (h i);
         error = errorIndexBy (visits i);
         visits = length (visits i);
+        report = reportBy (visits i);
         transaction = record {
           controls = controlsAfter (t .controls) (visits i);
           allowed = t .allowed || allowedBy (visits i);

@@ -1,7 +1,7 @@
 -- Cases written as 01 writes them, and the calls that they stand for.
 use Prim.Native.Nat.{ℕ, _+_}
 use Prim.Native.String.{String}
-use mathlib.Core.Bool.{Bool, true, false, not, _&&_, _||_}
+use mathlib.Core.Bool.{Bool, true, false, not, cond, _&&_, _||_}
 use mathlib.Core.List.{List, [], _∷_, _++_, map}
 use lib.ListN.{length, take, drop as past, replicate}
 use lib.Dec.{eqb}
@@ -15,11 +15,12 @@ use Rattle.reading.specs.declared.Action.{Action}
 use Rattle.reading.specs.declared.Marker.{Marker}
 use Rattle.reading.specs.declared.DataEntry.{DataEntry}
 use Rattle.reading.specs.declared.JournalEntry.{JournalEntry}
+use Rattle.reading.specs.declared.Report.{Report}
 use Rattle.reading.specs.declared.OptionU64.{OptionU64}
 use Rattle.reading.specs.declared.OptionPlace.{OptionPlace}
 use Rattle.reading.specs.declared.Intervention.{Intervention}
 use Rattle.reading.specs.declared.OptionIntervention.{OptionIntervention}
-use Rattle.reading.specs.Lists.{gather}
+use Rattle.reading.specs.Lists.{gather, total}
 use Rattle.reading.specs.Text.{ascii, same}
 use Rattle.reading.specs.Numbers.{modeNumber, modeSettingNumber, accessSettingNumber, processorSettingNumber, presentNumber, numberOrZero}
 use Rattle.reading.specs.Directive.{directiveOf, isSupported}
@@ -28,6 +29,7 @@ use Rattle.reading.specs.Reading.{Reading, rust}
 use Rattle.reading.specs.Call.{Call}
 use Rattle.reading.specs.Units.{interventionIds}
 use Rattle.reading.specs.Replay.{replayedIds, replayedData, replayedControls, replayedAllow, replayedIntervention}
+use Rattle.reading.specs.Report.{reportOf}
 use Rattle.reading.specs.Outcome.{Outcome, outcomeOf}
 use Rattle.reading.specs.Demand3.{foundJournal}
 
@@ -391,6 +393,17 @@ sameData (e ∷ es) [] = eqb (e .present) 9 && eqb (e .id) 9 && eqb (e .phase) 9
 sameData (e ∷ es) (s ∷ ss) =
     eqb (e .present) (presentNumber (s .id)) && eqb (e .id) (numberOrZero (s .id)) && eqb (e .phase) 2 && eqb (e .index) (s .at) && sameData es ss
 
+-- how many visits found each verdict
+abbrev pub seenWith : ℕ → List Seen → ℕ
+seenWith verdict seen = total (λ s. cond (eqb (s .verdict) verdict) 1 0) seen
+
+unfoldable pub sameReport : Report → List Seen → Bool
+sameReport r seen =
+    eqb (r .missed) (seenWith 0 seen)
+    && eqb (r .matched) (seenWith 1 seen)
+    && eqb (r .removed) (seenWith 2 seen)
+    && eqb (r .errors) (seenWith 3 seen)
+
 -- a place in phase 2, or none
 abbrev pub samePlace : OptionPlace → OptionU64 → Bool
 samePlace OptionPlace.None OptionU64.None = true
@@ -431,6 +444,7 @@ holdsReplayed r journal =
     same (replayedIds (r .phase-call .given) journal) (r .found .ids)
     && sameData (replayedData (r .phase-call .given) journal) (r .found .data-entries)
     && eqBool (r .phase-call .transaction .allowed || replayedAllow (r .phase-call .given) journal) (r .found .allowed)
+    && sameReport (reportOf journal) (r .found .visits)
     && sameStop (replayedIntervention (r .phase-call .given) (r .phase-call .transaction) journal) (r .found .stop)
     && eqb (length (replayedControls (r .phase-call .given) (r .phase-call .transaction) journal .ranges)) (r .ranges)
     && eqb (length (replayedControls (r .phase-call .given) (r .phase-call .transaction) journal .targets)) (r .targets)
@@ -441,6 +455,7 @@ holdsAfter r o =
     eqb (o .answer) (r .answer)
     && eqb (o .error) (r .error-index)
     && eqb (o .visits) (length (r .found .visits))
+    && sameReport (o .report) (r .found .visits)
     && eqb (length (o .lists .journal)) (length (r .phase-call .lists .journal))
     && sameVisits (o .lists .journal) (r .found .visits)
     && eqb (o .transaction .ids) (r .phase-call .transaction .ids + length (r .found .ids))

@@ -30,8 +30,9 @@ use Rattle.reading.specs.Refusals.{refused1, refused2, refused3, refused
 use Rattle.reading.specs.Units.{ruleControls, unitFlow, unitDisruptive, unitIntervention}
 use Rattle.reading.specs.Walk.{verdictAt, afterChain, visitAt, walk, walkOf}
 use Rattle.reading.specs.Replay.{unitsOf, lastClosed}
+use Rattle.reading.specs.Report.{reportOf}
 use Rattle.reading.specs.Outcome.{visitsOf, outcomeOf}
-use Rattle.reading.specs.Cases.Build.{deny, block, pass, allow, drop, chain, multiMatch, redirect, skipAfter, msg, skip, id, status, ctl, Written, Named, Row, none, stopped, stoppedWith, Told, rowOf, row, removal, settling, switching, targeting, failing, refused, rule, link, noId, noIdLink, withOutcome, missed, inError, marker, callWith, callIn, call, nothing, matched, miss, removed, error, entry, noIdEntry, lentData, lentEntry, sameIds, sameVisits, sameData, sameStop, holds, allHold}
+use Rattle.reading.specs.Cases.Build.{deny, block, pass, allow, drop, chain, multiMatch, redirect, skipAfter, msg, skip, id, status, ctl, Written, Named, Row, none, stopped, stoppedWith, Told, rowOf, row, removal, settling, switching, targeting, failing, refused, rule, link, noId, noIdLink, withOutcome, missed, inError, marker, callWith, callIn, call, nothing, matched, miss, removed, error, entry, noIdEntry, lentData, lentEntry, sameIds, sameVisits, sameData, sameStop, sameReport, holds, allHold}
 
 -- WHAT IS HELD AT ENTRY
 
@@ -394,5 +395,5 @@ points =
 
 -- every row holds
 pub point-table : allHold points ≡ true
-unfolding points directives allHold holds sameIds sameVisits sameData sameStop same trimStart before trimEnd trim fold allDigits valueFrom digits withoutPlus numberOf indexOf onFirst splitOn oneId idsTo idsFrom idPart anyBad rangesIn directiveOf isRemoved beyondLimits actionsOf lastOf lastDisruptive lastFlow metadataOf directiveIn markerPosition ruleAt isLink idAt outcomeAt actionsAt refused1 refused2 refused3 refused4 refused5 refused6 refused7 refused8 refused9 ruleTotal refusalOf ruleControls unitFlow unitDisruptive unitIntervention verdictAt afterChain visitAt walk walkOf visitsOf outcomeOf unitsOf lastClosed
+unfolding points directives allHold holds sameIds sameVisits sameData sameStop sameReport reportOf same trimStart before trimEnd trim fold allDigits valueFrom digits withoutPlus numberOf indexOf onFirst splitOn oneId idsTo idsFrom idPart anyBad rangesIn directiveOf isRemoved beyondLimits actionsOf lastOf lastDisruptive lastFlow metadataOf directiveIn markerPosition ruleAt isLink idAt outcomeAt actionsAt refused1 refused2 refused3 refused4 refused5 refused6 refused7 refused8 refused9 ruleTotal refusalOf ruleControls unitFlow unitDisruptive unitIntervention verdictAt afterChain visitAt walk walkOf visitsOf outcomeOf unitsOf lastClosed
 point-table = refl

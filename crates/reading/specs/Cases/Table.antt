@@ -14,8 +14,9 @@ use Rattle.reading.specs.Refusals.{refused1, refused2, refused3, refused
 use Rattle.reading.specs.Units.{ruleControls, unitFlow, unitDisruptive, unitIntervention}
 use Rattle.reading.specs.Walk.{verdictAt, afterChain, visitAt, walk, walkOf}
 use Rattle.reading.specs.Replay.{unitsOf, lastClosed}
+use Rattle.reading.specs.Report.{reportOf}
 use Rattle.reading.specs.Outcome.{visitsOf, outcomeOf}
-use Rattle.reading.specs.Cases.Build.{deny, pass, allow, skip, skipAfter, ctl, status, Row, none, stopped, Told, row, removal, switching, rule, link, noId, missed, marker, call, callIn, matched, miss, removed, entry, sameIds, sameVisits, sameData, sameStop, holds, allHold}
+use Rattle.reading.specs.Cases.Build.{deny, pass, allow, skip, skipAfter, ctl, status, Row, none, stopped, Told, row, removal, switching, rule, link, noId, missed, marker, call, callIn, matched, miss, removed, entry, sameIds, sameVisits, sameData, sameStop, sameReport, holds, allHold}
 
 abbrev told : String → Bool → Told
 told value supported = record { directive = "ruleRemoveById"; value = value; supported = supported }
@@ -79,5 +80,5 @@ cases =
 
 -- every row holds
 pub table : allHold cases ≡ true
-unfolding cases allHold holds sameIds sameVisits sameData sameStop same trimStart before trimEnd trim fold allDigits valueFrom digits withoutPlus numberOf indexOf onFirst splitOn oneId idsTo idsFrom idPart anyBad rangesIn directiveOf isRemoved beyondLimits actionsOf lastOf lastDisruptive lastFlow metadataOf directiveIn markerPosition ruleAt isLink idAt outcomeAt actionsAt refused1 refused2 refused3 refused4 refused5 refused6 refused7 refused8 refused9 ruleTotal refusalOf ruleControls unitFlow unitDisruptive unitIntervention verdictAt afterChain visitAt walk walkOf visitsOf outcomeOf unitsOf lastClosed
+unfolding cases allHold holds sameIds sameVisits sameData sameStop sameReport reportOf same trimStart before trimEnd trim fold allDigits valueFrom digits withoutPlus numberOf indexOf onFirst splitOn oneId idsTo idsFrom idPart anyBad rangesIn directiveOf isRemoved beyondLimits actionsOf lastOf lastDisruptive lastFlow metadataOf directiveIn markerPosition ruleAt isLink idAt outcomeAt actionsAt refused1 refused2 refused3 refused4 refused5 refused6 refused7 refused8 refused9 ruleTotal refusalOf ruleControls unitFlow unitDisruptive unitIntervention verdictAt afterChain visitAt walk walkOf visitsOf outcomeOf unitsOf lastClosed
 table = refl
