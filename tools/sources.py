@@ -107,6 +107,12 @@ def unmarked(line):
     return line[2:].removeprefix("/").removeprefix("!").removeprefix(" ")
 
 
+def first_difference(old, new):
+    """The number of the first line in which two texts differ."""
+    old, new = old.split("\n"), new.split("\n")
+    return next((i for i, (a, b) in enumerate(zip(old, new), 1) if a != b), min(len(old), len(new)) + 1)
+
+
 def kind_of(crate, places):
     """What a wrong program with these places is: a `program`, which changes code; a `contract`, which changes what is claimed of
     code, in a function's `ensures` or `requires` or in the specs that contracts are stated with; or a `definition` of crate reading,
