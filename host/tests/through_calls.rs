@@ -1,11 +1,12 @@
-//! The library has the records as they are declared: every number of a transaction is written or read by a call, with values
+//! The library has the records as they are declared: every number of every record is written or read by a call, with values
 //! that all differ, so that two exchanged fields, or one at another offset, would be seen. tests/layout.rs has the sizes and
 //! offsets that follow from the sources.
 
 use tivembo::raw::{self, Lent, Lists};
 use tivembo::{
     Act, Action, DataEntry, HostAnswer, HostControls, HostIntervention, HostMetadata, HostNumber,
-    HostPlace, HostTransaction, JournalEntry, Part, Rule, RuleSet, MOST_RANGES, MOST_TARGETS,
+    HostPlace, HostTransaction, JournalEntry, Marker, Part, Rule, RuleSet, MOST_RANGES,
+    MOST_TARGETS,
 };
 
 /// Controls in which every number of the arrays differs.
@@ -263,6 +264,35 @@ fn every_number_of_an_answer() {
     };
     assert_eq!(answer, expected);
     assert_eq!(journal, [0, 1, 1, 3]);
+}
+
+#[test]
+fn every_number_of_a_directive_and_of_a_marker() {
+    let read = raw::read_directive(b"ruleRemoveTargetById", b"12;ARGS", &mut [], &mut []);
+    assert_eq!((read.answer, read.form, read.value), (0, 3, 2));
+    let read = raw::read_directive(b"ruleRemoveById", b"12", &mut [], &mut []);
+    assert_eq!((read.answer, read.form, read.value), (7, 0, 0));
+
+    let name = Part { start: 1, len: 2 };
+    let marker = Marker { name, position: 3 };
+    let found = raw::marker_position(&[marker], 4, b"xyz", b"yz");
+    assert_eq!((found.answer, found.present, found.position), (0, 1, 3));
+    let refused = raw::marker_position(&[marker], 2, b"xyz", b"yz");
+    assert_eq!(refused.answer, 5);
+}
+
+#[test]
+fn every_refusal_of_a_question_and_of_an_addition() {
+    let beyond = HostControls {
+        targets: MOST_TARGETS as u64 + 1,
+        ..pattern()
+    };
+    let asked = raw::target_count(beyond);
+    assert_eq!((asked.answer, asked.value), (3, 0));
+    let asked = raw::target_at(beyond, 0);
+    assert_eq!((asked.answer, asked.target), (3, HostPlace::default()));
+    let refused = raw::remove_range(pattern(), 8, 7);
+    assert_eq!((refused.answer, refused.controls), (5, pattern()));
 }
 
 #[test]
