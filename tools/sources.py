@@ -1,4 +1,4 @@
-"""The Rattle sources, read: crates, their modules and functions. What edit-errors, code-tables and counts share."""
+"""The Rattle sources, read: crates, their modules and functions. What edit-errors, code-tables, counts and declarations share."""
 import os
 import re
 from typing import NamedTuple
@@ -25,15 +25,15 @@ class Function(NamedTuple):
     is_public: bool
 
 
-def crates():
+def crates(root=ROOT):
     """In the order of crates.txt, which is that of what they need."""
     comment = ""
-    for line in read(os.path.join(ROOT, "crates.txt")).splitlines():
+    for line in read(os.path.join(root, "crates.txt")).splitlines():
         if line.startswith("#"):
             comment = line[1:].strip()
         elif ":" in line:
             name, needs = line.split(":")
-            yield Crate(name, needs.split(), comment, os.path.join(ROOT, "crates", name))
+            yield Crate(name, needs.split(), comment, os.path.join(root, "crates", name))
             comment = ""
 
 
@@ -98,8 +98,19 @@ def leading_comment(text):
     for line in text.split("\n"):
         if not line.startswith("//"):
             break
-        lines.append(line[2:].removeprefix("/").removeprefix("!").removeprefix(" "))
+        lines.append(unmarked(line))
     return "\n".join(lines).strip()
+
+
+def unmarked(line):
+    """A comment line without its mark."""
+    return line[2:].removeprefix("/").removeprefix("!").removeprefix(" ")
+
+
+def first_difference(old, new):
+    """The number of the first line in which two texts differ."""
+    old, new = old.split("\n"), new.split("\n")
+    return next((i for i, (a, b) in enumerate(zip(old, new), 1) if a != b), min(len(old), len(new)) + 1)
 
 
 def kind_of(crate, places):

@@ -1,8 +1,11 @@
 //! Which limit of 01 a rule set breaks, and where.
 
 use crate::directive::{read_directive, Directive};
-use crate::limits::{Broken, Limit, Where, MOST_ACTIONS, MOST_BYTES, MOST_MARKERS, MOST_RULES};
-use crate::records::{Action, Marker, Part, Rule, MOST_RANGES, MOST_TARGETS};
+use crate::limits::{
+    Broken, Limit, Where, MOST_ACTIONS, MOST_BYTES, MOST_MARKERS, MOST_RANGES, MOST_RULES,
+    MOST_TARGETS,
+};
+use crate::records::{Action, Marker, Part, Rule};
 use crate::ruleset::Records;
 use crate::Act;
 

@@ -1,5 +1,6 @@
 //! The directive reader.
 
+use crate::constants::directive as form;
 use crate::exported;
 use crate::values::{BodyProcessor, Mode};
 use crate::Refusal;
@@ -53,10 +54,14 @@ pub fn read_directive<'a>(name: &[u8], value: &'a [u8]) -> Result<Directive<'a>,
     }
     Refusal::unless(read.answer, ())?;
     let directive = match read.form {
-        1 => Mode::from_number(read.value).map(Directive::RuleEngine),
-        3 => sides(value, read.value).map(Directive::RuleRemoveTargetById),
-        4 => Some(Directive::RequestBodyAccess(read.value == 0)),
-        5 => BodyProcessor::from_number(read.value).map(Directive::RequestBodyProcessor),
+        form::RULE_ENGINE => Mode::from_number(read.value).map(Directive::RuleEngine),
+        form::RULE_REMOVE_TARGET_BY_ID => {
+            sides(value, read.value).map(Directive::RuleRemoveTargetById)
+        }
+        form::REQUEST_BODY_ACCESS => Some(Directive::RequestBodyAccess(read.value == 0)),
+        form::REQUEST_BODY_PROCESSOR => {
+            BodyProcessor::from_number(read.value).map(Directive::RequestBodyProcessor)
+        }
         _ => Some(Directive::Unsupported),
     };
     Ok(directive.expect("the contract has no other values"))

@@ -1,25 +1,42 @@
-//! What crates/host exports, declared again, a safe function over each call, and lists of records as the lists of
-//! numbers that they are. All `unsafe` code is in this file.
+//! Written by tools/declarations from the Rattle sources in crates/; not to be changed by hand.
 //!
-//! Nothing checks the declarations against src/lib.rt there: names, order and widths must be the same. tests/layout.rs
-//! writes and reads every number of every record through calls. A lent list is a pointer to its first entry and then its
-//! length.
+//! The calls of the static library, and a safe function over each. A lent list goes over as a pointer to its first
+//! entry and then its length. All `unsafe` code of the crate is in this file and in src/words.rs.
 
 #![allow(unsafe_code)]
 
-use crate::raw::{Lent, Lists};
 use crate::records::{
-    Action, DataRecord, HostAnswer, HostChangeAnswer, HostControls, HostMarker, HostNumber,
-    HostQueryAnswer, HostTarget, HostTransaction, JournalRecord, Marker, ReadRecord, Rule,
+    Action, Answer, DataEntry, HostChangeAnswer, HostControls, HostIntervention, HostMarker,
+    HostMetadata, HostNumber, HostPlace, HostQueryAnswer, HostTarget, HostTransaction,
+    JournalEntry, Marker, Part, ReadRecord, Rule,
 };
-use crate::Outcome;
+use crate::words::Words;
 
 extern "C" {
+    fn tivembo_read_directive(
+        name: *const u8,
+        name_len: usize,
+        value: *const u8,
+        value_len: usize,
+        starts: *mut u64,
+        starts_len: usize,
+        ends: *mut u64,
+        ends_len: usize,
+    ) -> ReadRecord;
+    fn tivembo_marker_position(
+        markers: *const Marker,
+        markers_len: usize,
+        rules: u64,
+        text: *const u8,
+        text_len: usize,
+        name: *const u8,
+        name_len: usize,
+    ) -> HostMarker;
     fn tivembo_run_phase(
-        transaction: *mut HostTransaction,
+        t: *mut HostTransaction,
         phase: u64,
         mode: u64,
-        status: u64,
+        default_status: u64,
         rules: *const u64,
         rules_len: usize,
         actions: *const u64,
@@ -36,82 +53,26 @@ extern "C" {
         entries_len: usize,
         journal: *mut u64,
         journal_len: usize,
-    ) -> HostAnswer;
-
-    fn tivembo_read_directive(
-        name: *const u8,
-        name_len: usize,
-        value: *const u8,
-        value_len: usize,
-        starts: *mut u64,
-        starts_len: usize,
-        ends: *mut u64,
-        ends_len: usize,
-    ) -> ReadRecord;
-
-    fn tivembo_engine_mode(controls: HostControls, ruleset_mode: u64) -> HostQueryAnswer;
-    fn tivembo_is_rule_removed(controls: HostControls, id: HostNumber) -> HostQueryAnswer;
-    fn tivembo_target_count(controls: HostControls) -> HostQueryAnswer;
-    fn tivembo_target_at(controls: HostControls, at: u64) -> HostTarget;
-    fn tivembo_request_body_access(controls: HostControls) -> HostQueryAnswer;
-    fn tivembo_request_body_processor(controls: HostControls) -> HostQueryAnswer;
-    fn tivembo_remove_range(controls: HostControls, start: u64, end: u64) -> HostChangeAnswer;
-    fn tivembo_remove_target(controls: HostControls, phase: u64, position: u64)
-        -> HostChangeAnswer;
-
-    fn tivembo_marker_position(
-        markers: *const Marker,
-        markers_len: usize,
-        rules: u64,
-        text: *const u8,
-        text_len: usize,
-        name: *const u8,
-        name_len: usize,
-    ) -> HostMarker;
+    ) -> Answer;
+    fn tivembo_target_count(c: HostControls) -> HostQueryAnswer;
+    fn tivembo_target_at(c: HostControls, at: u64) -> HostTarget;
+    fn tivembo_engine_mode(c: HostControls, ruleset_mode: u64) -> HostQueryAnswer;
+    fn tivembo_is_rule_removed(c: HostControls, id: HostNumber) -> HostQueryAnswer;
+    fn tivembo_request_body_access(c: HostControls) -> HostQueryAnswer;
+    fn tivembo_request_body_processor(c: HostControls) -> HostQueryAnswer;
+    fn tivembo_remove_range(c: HostControls, start: u64, end: u64) -> HostChangeAnswer;
+    fn tivembo_remove_target(c: HostControls, phase: u64, position: u64) -> HostChangeAnswer;
 }
 
-/// A phase call on whatever is lent.
-pub fn run_phase(
-    transaction: &mut HostTransaction,
-    lent: &Lent<'_>,
-    lists: &mut Lists<'_>,
-) -> HostAnswer {
-    // SAFETY: the contract has no `requires`. Each pointer and length is a slice that is lent for the whole call, and
-    // the transaction and the three lists that are written are borrowed by nobody else.
-    unsafe {
-        tivembo_run_phase(
-            transaction,
-            lent.phase,
-            lent.mode,
-            lent.status,
-            lent.rules.as_ptr(),
-            lent.rules.len(),
-            lent.actions.as_ptr(),
-            lent.actions.len(),
-            lent.markers.as_ptr(),
-            lent.markers.len(),
-            lent.text.as_ptr(),
-            lent.text.len(),
-            lent.outcomes.as_ptr(),
-            lent.outcomes.len(),
-            lists.ids.as_mut_ptr(),
-            lists.ids.len(),
-            lists.entries.as_mut_ptr(),
-            lists.entries.len(),
-            lists.journal.as_mut_ptr(),
-            lists.journal.len(),
-        )
-    }
-}
-
-/// Reads one directive; the ranges of a ruleRemoveById go to the start of the two lists.
+/// Reads a directive. The ranges of a ruleRemoveById go to the start of the two lists.
 pub fn read_directive(
     name: &[u8],
     value: &[u8],
     starts: &mut [u64],
     ends: &mut [u64],
 ) -> ReadRecord {
-    // SAFETY: as for the phase call.
+    // SAFETY: the contract has no `requires`; what is lent stays borrowed for the whole call; what is written is
+    // borrowed by nobody else.
     unsafe {
         tivembo_read_directive(
             name.as_ptr(),
@@ -126,9 +87,9 @@ pub fn read_directive(
     }
 }
 
-/// Where the latest marker of a name leads, of a phase with so many rules. The markers' names are parts of the text.
+/// Where the latest marker of a name leads, asked of a phase's marker records. `rules` is how many rules the phase has.
 pub fn marker_position(markers: &[Marker], rules: u64, text: &[u8], name: &[u8]) -> HostMarker {
-    // SAFETY: the contract has no `requires`. Each pointer and length is a slice that is lent for the whole call.
+    // SAFETY: the contract has no `requires`; what is lent stays borrowed for the whole call.
     unsafe {
         tivembo_marker_position(
             markers.as_ptr(),
@@ -142,72 +103,114 @@ pub fn marker_position(markers: &[Marker], rules: u64, text: &[u8], name: &[u8])
     }
 }
 
-/// Safe functions over the calls that take and give records alone.
-macro_rules! by_value {
-    ($($(#[$doc:meta])* $name:ident = $exported:ident($($argument:ident: $type:ty),*) -> $answer:ty;)*) => {
-        $(
-            $(#[$doc])*
-            pub fn $name($($argument: $type),*) -> $answer {
-                // SAFETY: the contract has no `requires`, and nothing is lent: records go over by value.
-                unsafe { $exported($($argument),*) }
-            }
-        )*
-    };
+/// The phase call, on a transaction and marker records that the host lends.
+#[allow(clippy::too_many_arguments)]
+pub fn run_phase(
+    t: &mut HostTransaction,
+    phase: u64,
+    mode: u64,
+    default_status: u64,
+    rules: &[u64],
+    actions: &[u64],
+    markers: &[Marker],
+    text: &[u8],
+    outcomes: &[u8],
+    ids: &mut [u64],
+    entries: &mut [u64],
+    journal: &mut [u64],
+) -> Answer {
+    // SAFETY: the contract has no `requires`; what is lent stays borrowed for the whole call; what is written is
+    // borrowed by nobody else.
+    unsafe {
+        tivembo_run_phase(
+            t,
+            phase,
+            mode,
+            default_status,
+            rules.as_ptr(),
+            rules.len(),
+            actions.as_ptr(),
+            actions.len(),
+            markers.as_ptr(),
+            markers.len(),
+            text.as_ptr(),
+            text.len(),
+            outcomes.as_ptr(),
+            outcomes.len(),
+            ids.as_mut_ptr(),
+            ids.len(),
+            entries.as_mut_ptr(),
+            entries.len(),
+            journal.as_mut_ptr(),
+            journal.len(),
+        )
+    }
 }
 
-by_value! {
-    /// The number of the mode in force (0 On, 1 DetectionOnly, 2 Off) where the rule set has this one.
-    engine_mode = tivembo_engine_mode(controls: HostControls, ruleset_mode: u64) -> HostQueryAnswer;
-    /// 1 where a rule with this id, or with none, is removed, else 0.
-    is_rule_removed = tivembo_is_rule_removed(controls: HostControls, id: HostNumber) -> HostQueryAnswer;
-    /// How many removed targets are held.
-    target_count = tivembo_target_count(controls: HostControls) -> HostQueryAnswer;
-    /// The removed target at a place of the list, counted from 0, or none after its end.
-    target_at = tivembo_target_at(controls: HostControls, at: u64) -> HostTarget;
-    /// 0 where body access is on, 1 where it is off.
-    request_body_access = tivembo_request_body_access(controls: HostControls) -> HostQueryAnswer;
-    /// 0 where no body processor is set, else its number: 1 URLENCODED, 2 MULTIPART, 3 JSON, 4 XML.
-    request_body_processor = tivembo_request_body_processor(controls: HostControls) -> HostQueryAnswer;
-    /// Adds a range of removed ids.
-    remove_range = tivembo_remove_range(controls: HostControls, start: u64, end: u64) -> HostChangeAnswer;
-    /// Adds the place of a removed target.
-    remove_target = tivembo_remove_target(controls: HostControls, phase: u64, position: u64) -> HostChangeAnswer;
+/// How many targets are removed.
+pub fn target_count(c: HostControls) -> HostQueryAnswer {
+    // SAFETY: the contract has no `requires`.
+    unsafe { tivembo_target_count(c) }
 }
 
-/// Records that are 64-bit numbers and nothing else.
-///
-/// # Safety
-///
-/// The type is `#[repr(C)]` and made of `u64` alone: it has no bytes between them, and any numbers make one.
-pub unsafe trait Words: Copy {}
+/// The target at a place of the list, counted from 0, or none after its end.
+pub fn target_at(c: HostControls, at: u64) -> HostTarget {
+    // SAFETY: the contract has no `requires`.
+    unsafe { tivembo_target_at(c, at) }
+}
 
-// SAFETY: see crate::records.
+/// The mode set last, else the rule set's: 0, 1 or 2.
+pub fn engine_mode(c: HostControls, ruleset_mode: u64) -> HostQueryAnswer {
+    // SAFETY: the contract has no `requires`.
+    unsafe { tivembo_engine_mode(c, ruleset_mode) }
+}
+
+/// Whether a rule of this id, or of none, is removed: 1 or 0.
+pub fn is_rule_removed(c: HostControls, id: HostNumber) -> HostQueryAnswer {
+    // SAFETY: the contract has no `requires`.
+    unsafe { tivembo_is_rule_removed(c, id) }
+}
+
+/// 0 On, 1 Off.
+pub fn request_body_access(c: HostControls) -> HostQueryAnswer {
+    // SAFETY: the contract has no `requires`.
+    unsafe { tivembo_request_body_access(c) }
+}
+
+/// 0 where none is set, else one more than the processor's number.
+pub fn request_body_processor(c: HostControls) -> HostQueryAnswer {
+    // SAFETY: the contract has no `requires`.
+    unsafe { tivembo_request_body_processor(c) }
+}
+
+/// One range at the end. After 3 and an unknown number: 5 where the start is above the end, 8 where 256 are held.
+pub fn remove_range(c: HostControls, start: u64, end: u64) -> HostChangeAnswer {
+    // SAFETY: the contract has no `requires`.
+    unsafe { tivembo_remove_range(c, start, end) }
+}
+
+/// One target at the end. After 3 and an unknown number: 9 where 64 are held.
+pub fn remove_target(c: HostControls, phase: u64, position: u64) -> HostChangeAnswer {
+    // SAFETY: the contract has no `requires`.
+    unsafe { tivembo_remove_target(c, phase, position) }
+}
+
+// SAFETY: each is `#[repr(C)]` and made of `u64` alone.
 unsafe impl Words for Rule {}
+unsafe impl Words for Part {}
 unsafe impl Words for Action {}
 unsafe impl Words for Marker {}
-unsafe impl Words for DataRecord {}
-unsafe impl Words for JournalRecord {}
+unsafe impl Words for DataEntry {}
+unsafe impl Words for JournalEntry {}
+unsafe impl Words for ReadRecord {}
+unsafe impl Words for HostMarker {}
+unsafe impl Words for HostControls {}
+unsafe impl Words for HostPlace {}
+unsafe impl Words for HostNumber {}
+unsafe impl Words for HostMetadata {}
+unsafe impl Words for HostIntervention {}
 unsafe impl Words for HostTransaction {}
-
-/// How many numbers a list of records is.
-fn count<T: Words>(records: &[T]) -> usize {
-    std::mem::size_of_val(records) / std::mem::size_of::<u64>()
-}
-
-/// The numbers of a list of records, without a copy.
-pub fn words<T: Words>(records: &[T]) -> &[u64] {
-    // SAFETY: the records are so many numbers one after the other, and stay borrowed as long as the numbers are.
-    unsafe { std::slice::from_raw_parts(records.as_ptr().cast(), count(records)) }
-}
-
-/// The same, to be written: any numbers make records.
-pub fn words_mut<T: Words>(records: &mut [T]) -> &mut [u64] {
-    // SAFETY: as above; any numbers that are written make records again.
-    unsafe { std::slice::from_raw_parts_mut(records.as_mut_ptr().cast(), count(records)) }
-}
-
-/// The numbers of a list of outcomes.
-pub fn outcome_bytes(outcomes: &[Outcome]) -> &[u8] {
-    // SAFETY: `Outcome` is `#[repr(u8)]`, so each is one byte, and they stay borrowed as long as the bytes are.
-    unsafe { std::slice::from_raw_parts(outcomes.as_ptr().cast(), outcomes.len()) }
-}
+unsafe impl Words for Answer {}
+unsafe impl Words for HostQueryAnswer {}
+unsafe impl Words for HostTarget {}
+unsafe impl Words for HostChangeAnswer {}

@@ -31,8 +31,9 @@
 //! # What is proved, and what is not
 //!
 //! Behind every call stands a function of libhost.a that is proved to do what the definitions say, whatever it is lent: see
-//! docs/AUDIT.md. This crate itself is plain Rust. It makes the records, declares the calls (src/exported.rs, the only file
-//! with `unsafe` code) and puts names on the numbers; it is tested, not proved.
+//! docs/AUDIT.md. This crate itself is plain Rust. It makes the records, declares the calls (src/exported.rs, which
+//! tools/declarations writes from the proved sources) and puts names on the numbers; it is tested, not proved. All `unsafe`
+//! code is in src/exported.rs and src/words.rs.
 //!
 //! # What the host does for real rule sets
 //!
@@ -51,6 +52,7 @@
 
 mod act;
 mod check;
+pub mod constants;
 mod controls;
 mod directive;
 mod exported;
@@ -58,23 +60,25 @@ mod intervention;
 mod limits;
 mod phase;
 pub mod raw;
-mod records;
+pub mod records;
 mod refusal;
 mod ruleset;
 mod rulesets;
 mod transaction;
 mod values;
+mod words;
 
 pub use act::Act;
+pub use constants::limits::{RANGES as MOST_RANGES, TARGETS as MOST_TARGETS};
 pub use controls::Controls;
 pub use directive::{read_directive, Directive, Target};
 pub use intervention::{Intervention, Metadata};
 pub use limits::{Broken, Limit, Where};
 pub use phase::{Answer, Phase};
 pub use records::{
-    Action, DataRecord, HostAnswer, HostChangeAnswer, HostControls, HostIntervention, HostMarker,
-    HostMetadata, HostNumber, HostPlace, HostQueryAnswer, HostTarget, HostTransaction,
-    JournalRecord, Marker, Part, Rule, MOST_RANGES, MOST_TARGETS,
+    Action, Answer as HostAnswer, DataEntry, HostChangeAnswer, HostControls, HostIntervention,
+    HostMarker, HostMetadata, HostNumber, HostPlace, HostQueryAnswer, HostTarget, HostTransaction,
+    JournalEntry, Marker, Part, Rule,
 };
 pub use refusal::Refusal;
 pub use ruleset::{Builder, Records, RuleSet};

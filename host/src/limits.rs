@@ -3,12 +3,10 @@
 use std::error::Error;
 use std::fmt;
 
-use crate::records::{MOST_RANGES, MOST_TARGETS};
-
-pub(crate) const MOST_RULES: usize = 512;
-pub(crate) const MOST_ACTIONS: usize = 4_096;
-pub(crate) const MOST_MARKERS: usize = 256;
-pub(crate) const MOST_BYTES: usize = 65_536;
+pub(crate) use crate::constants::limits::{
+    ACTIONS as MOST_ACTIONS, MARKERS as MOST_MARKERS, RANGES as MOST_RANGES, RULES as MOST_RULES,
+    TARGETS as MOST_TARGETS, TEXT_BYTES as MOST_BYTES,
+};
 
 /// A limit of 01 that concerns a rule set by itself.
 #[derive(Debug, Clone, Copy, PartialEq, Eq, Hash)]

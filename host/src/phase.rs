@@ -1,7 +1,7 @@
 //! What a phase call gives.
 
 use crate::intervention::Intervention;
-use crate::records::{DataRecord, HostAnswer, HostTransaction, JournalRecord};
+use crate::records::{Answer as HostAnswer, DataEntry, HostTransaction, JournalEntry};
 use crate::transaction::Transaction;
 use crate::values::{Data, Place, Verdict};
 
@@ -72,7 +72,7 @@ impl<'t> Phase<'t> {
 
     /// The journal: the index of each visited rule, in order, and the verdict. A rule that is not in it was passed.
     pub fn visits(&self) -> impl Iterator<Item = (usize, Verdict)> + 't {
-        let visit = |entry: &JournalRecord| {
+        let visit = |entry: &JournalEntry| {
             let verdict = Verdict::from_number(entry.verdict);
             let verdict = verdict.expect("the contract has no other verdict");
             (entry.index as usize, verdict)
@@ -121,8 +121,8 @@ impl<'t> Phase<'t> {
     }
 }
 
-impl From<&DataRecord> for Data {
-    fn from(record: &DataRecord) -> Self {
+impl From<&DataEntry> for Data {
+    fn from(record: &DataEntry) -> Self {
         Self {
             id: (record.present == 1).then_some(record.id),
             phase: record.phase,

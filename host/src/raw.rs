@@ -4,14 +4,14 @@
 //! is the comfortable way; this one is for tests, and for hosts that keep the records themselves.
 
 use crate::exported;
-use crate::records::{HostAnswer, HostTransaction, Marker};
+use crate::records::{Answer, HostTransaction, Marker};
 
 pub use crate::exported::{
-    engine_mode, is_rule_removed, marker_position, outcome_bytes, read_directive, remove_range,
-    remove_target, request_body_access, request_body_processor, target_at, target_count, words,
-    words_mut, Words,
+    engine_mode, is_rule_removed, marker_position, read_directive, remove_range, remove_target,
+    request_body_access, request_body_processor, target_at, target_count,
 };
 pub use crate::records::ReadRecord;
+pub use crate::words::{outcome_bytes, words, words_mut, Words};
 
 /// What a phase call reads: 5 numbers a rule and 6 an action, in the order of [`Rule`](crate::Rule) and
 /// [`Action`](crate::Action). Numbers after the last whole record are not looked at.
@@ -77,6 +77,19 @@ pub fn run_phase(
     transaction: &mut HostTransaction,
     lent: &Lent<'_>,
     lists: &mut Lists<'_>,
-) -> HostAnswer {
-    exported::run_phase(transaction, lent, lists)
+) -> Answer {
+    exported::run_phase(
+        transaction,
+        lent.phase,
+        lent.mode,
+        lent.status,
+        lent.rules,
+        lent.actions,
+        lent.markers,
+        lent.text,
+        lent.outcomes,
+        lists.ids,
+        lists.entries,
+        lists.journal,
+    )
 }

@@ -1,152 +1,104 @@
-//! The records that are lent: `#[repr(C)]` structs of 64-bit numbers, as [crates/abi_phase](../../crates/abi_phase/src/lib.rt),
-//! the crates of its parts and crates/reading declare them. A record may hold any numbers at all; a call refuses what 01 does
-//! not know.
+//! Written by tools/declarations from the Rattle sources in crates/; not to be changed by hand.
+//!
+//! The records that are lent, given and answered. A record may hold any numbers at all; a call refuses what 01 does not
+//! know. A comment stands where the sources have one.
 
-/// How many removed id ranges a transaction can hold.
-pub const MOST_RANGES: usize = 256;
+#![allow(missing_docs)]
 
-/// How many removed targets a transaction can hold.
-pub const MOST_TARGETS: usize = 64;
+use crate::constants::limits;
 
-/// A part of the rule set's text: where it starts and how long it is.
+/// A rule's record. `present` is 1 where the rule has an id and 0 where it has none, `link` is `is_chain`, and its
+/// actions are the `count` from `first` on.
 #[repr(C)]
 #[derive(Debug, Clone, Copy, Default, PartialEq, Eq, Hash)]
-pub struct Part {
-    /// Its first byte.
-    pub start: u64,
-    /// How many bytes it has.
-    pub len: u64,
-}
-
-impl Part {
-    /// The part's bytes, none where it is not inside the text.
-    ///
-    /// ```
-    /// let part = tivembo::Part { start: 2, len: 3 };
-    /// assert_eq!(part.of(b"a marker"), Some(&b"mar"[..]));
-    /// assert_eq!(part.of(b"mark"), None);
-    /// ```
-    pub fn of(self, text: &[u8]) -> Option<&[u8]> {
-        let start = usize::try_from(self.start).ok()?;
-        let end = start.checked_add(usize::try_from(self.len).ok()?)?;
-        text.get(start..end)
-    }
-}
-
-/// A rule: an id (`present` is 1) or none (0), whether it is a link, and where its actions stand in the action list.
-#[repr(C)]
-#[derive(Debug, Clone, Copy, Default, PartialEq, Eq)]
 pub struct Rule {
-    /// 1 where it has an id, else 0.
     pub present: u64,
-    /// The id.
     pub id: u64,
-    /// 1 where it is a link, else 0.
     pub link: u64,
-    /// Its first action.
     pub first: u64,
-    /// How many actions it has.
     pub count: u64,
 }
 
-/// An action: its kind, its number and two parts of the text. [`Act`](crate::Act) has the kinds with their names.
+/// A part of a lent text.
 #[repr(C)]
-#[derive(Debug, Clone, Copy, Default, PartialEq, Eq)]
+#[derive(Debug, Clone, Copy, Default, PartialEq, Eq, Hash)]
+pub struct Part {
+    pub start: u64,
+    pub len: u64,
+}
+
+/// An action's record: its kind, its number, and two parts of the lent text.
+#[repr(C)]
+#[derive(Debug, Clone, Copy, Default, PartialEq, Eq, Hash)]
 pub struct Action {
-    /// 01's number of the kind.
     pub kind: u64,
-    /// The number of a kind that has one.
     pub number: u64,
-    /// The text of a kind that has one, and the directive of a ctl.
     pub text: Part,
-    /// The value of a ctl.
     pub value: Part,
 }
 
-/// A marker: its name, and the number of the phase's rules before it.
+/// A marker's record: its name, and the number of the phase's rules before it.
 #[repr(C)]
-#[derive(Debug, Clone, Copy, Default, PartialEq, Eq)]
+#[derive(Debug, Clone, Copy, Default, PartialEq, Eq, Hash)]
 pub struct Marker {
-    /// Where its name stands.
     pub name: Part,
-    /// The number of the phase's rules before it.
     pub position: u64,
 }
 
-/// A data entry: the id (`present` is 1) or none (0), the phase, and the index of the rule that matched with a variable.
+/// An entry of the list of matched data. `present` is 1 where it has an id.
 #[repr(C)]
-#[derive(Debug, Clone, Copy, Default, PartialEq, Eq)]
-pub struct DataRecord {
-    /// 1 where it has an id, else 0.
+#[derive(Debug, Clone, Copy, Default, PartialEq, Eq, Hash)]
+pub struct DataEntry {
     pub present: u64,
-    /// The id, or 0.
     pub id: u64,
-    /// The phase.
     pub phase: u64,
-    /// The rule's index.
     pub index: u64,
 }
 
-/// A journal entry: the visited rule's index and the verdict's number.
+/// An entry of the journal: a visited rule's index and the number of the verdict.
 #[repr(C)]
-#[derive(Debug, Clone, Copy, Default, PartialEq, Eq)]
-pub struct JournalRecord {
-    /// The rule's index.
+#[derive(Debug, Clone, Copy, Default, PartialEq, Eq, Hash)]
+pub struct JournalEntry {
     pub index: u64,
-    /// 0 missed, 1 matched, 2 removed, 3 error.
     pub verdict: u64,
 }
 
-/// A number (`present` is 1) or none (0).
+/// What the reader answers, the number of the directive's form, and its value.
 #[repr(C)]
-#[derive(Debug, Clone, Copy, Default, PartialEq, Eq)]
-pub struct HostNumber {
-    /// 1 where there is a number, else 0.
-    pub present: u64,
-    /// The number.
+#[derive(Debug, Clone, Copy, Default, PartialEq, Eq, Hash)]
+pub struct ReadRecord {
+    pub answer: u64,
+    pub form: u64,
     pub value: u64,
 }
 
-/// A place (`present` is 1) or none (0).
+/// What the question answers: 0, or the number of a refusal; 1 and the position where there is a marker of the name,
+/// else twice 0.
 #[repr(C)]
-#[derive(Debug, Clone, Copy, Default, PartialEq, Eq)]
-pub struct HostPlace {
-    /// 1 where there is a place, else 0.
+#[derive(Debug, Clone, Copy, Default, PartialEq, Eq, Hash)]
+pub struct HostMarker {
+    pub answer: u64,
     pub present: u64,
-    /// Its phase.
-    pub phase: u64,
-    /// Its position in that phase's action list.
     pub position: u64,
 }
 
-/// What directives have set: the mode (1 On, 2 DetectionOnly, 3 Off), body access (1 On, 2 Off) and body processor
-/// (1 URLENCODED, 2 MULTIPART, 3 JSON, 4 XML), each 0 where nothing set it; how many ranges and targets are held; and
-/// their places.
+/// The settings by number, 0 where one is not set, and the arrays with how many of their places are in use.
 #[repr(C)]
-#[derive(Debug, Clone, Copy, PartialEq, Eq)]
+#[derive(Debug, Clone, Copy, PartialEq, Eq, Hash)]
 pub struct HostControls {
-    /// 0 not set, 1 On, 2 DetectionOnly, 3 Off.
     pub mode: u64,
-    /// 0 not set, 1 On, 2 Off.
     pub access: u64,
-    /// 0 not set, 1 URLENCODED, 2 MULTIPART, 3 JSON, 4 XML.
     pub processor: u64,
-    /// How many ranges are held.
     pub ranges: u64,
-    /// How many targets are held.
     pub targets: u64,
-    /// Where the ranges start.
-    pub starts: [u64; MOST_RANGES],
-    /// Where the ranges end.
-    pub ends: [u64; MOST_RANGES],
-    /// The phases of the targets' places.
-    pub phases: [u64; MOST_TARGETS],
-    /// The positions of the targets' places.
-    pub positions: [u64; MOST_TARGETS],
+    pub starts: [u64; limits::RANGES],
+    pub ends: [u64; limits::RANGES],
+    pub phases: [u64; limits::TARGETS],
+    pub positions: [u64; limits::TARGETS],
 }
 
 impl Default for HostControls {
-    /// Controls that hold nothing.
+    /// Zeros alone.
     fn default() -> Self {
         Self {
             mode: 0,
@@ -154,140 +106,99 @@ impl Default for HostControls {
             processor: 0,
             ranges: 0,
             targets: 0,
-            starts: [0; MOST_RANGES],
-            ends: [0; MOST_RANGES],
-            phases: [0; MOST_TARGETS],
-            positions: [0; MOST_TARGETS],
+            starts: [0; limits::RANGES],
+            ends: [0; limits::RANGES],
+            phases: [0; limits::TARGETS],
+            positions: [0; limits::TARGETS],
         }
     }
 }
 
-/// The metadata of the rule that started the unit: the last action of each kind.
+/// A place or none.
 #[repr(C)]
-#[derive(Debug, Clone, Copy, Default, PartialEq, Eq)]
-pub struct HostMetadata {
-    /// The last id action.
-    pub id: HostNumber,
-    /// The last msg.
-    pub msg: HostPlace,
-    /// The last logdata.
-    pub logdata: HostPlace,
-    /// The last rev.
-    pub rev: HostPlace,
-    /// The last ver.
-    pub ver: HostPlace,
-    /// The last severity.
-    pub severity: HostNumber,
-    /// The last maturity.
-    pub maturity: HostNumber,
-    /// The last accuracy.
-    pub accuracy: HostNumber,
-}
-
-/// An intervention (`present` is 1) or none (0).
-#[repr(C)]
-#[derive(Debug, Clone, Copy, Default, PartialEq, Eq)]
-pub struct HostIntervention {
-    /// 1 where there is an intervention, else 0.
+#[derive(Debug, Clone, Copy, Default, PartialEq, Eq, Hash)]
+pub struct HostPlace {
     pub present: u64,
-    /// Its status.
-    pub status: u64,
-    /// Where a redirect leads.
-    pub url: HostPlace,
-    /// The log text.
-    pub log: HostPlace,
-    /// The closing rule's id.
-    pub closing: HostNumber,
-    /// The starter's id, where it is another.
-    pub starter: HostNumber,
-    /// The phase in which it came about.
     pub phase: u64,
-    /// 1 where the connection is dropped, else 0.
-    pub drop: u64,
-    /// The starter's metadata.
-    pub metadata: HostMetadata,
-}
-
-/// A transaction as it is lent: the controls, whether it is allowed (0 or 1), an intervention or none, and how many
-/// matched ids and data entries are in use.
-#[repr(C)]
-#[derive(Debug, Clone, Copy, Default, PartialEq, Eq)]
-pub struct HostTransaction {
-    /// What directives have set.
-    pub controls: HostControls,
-    /// 1 where the request is allowed, else 0.
-    pub allowed: u64,
-    /// What stops the request.
-    pub intervention: HostIntervention,
-    /// How many matched ids are in use.
-    pub ids: u64,
-    /// How many data entries are in use.
-    pub entries: u64,
-}
-
-/// What a phase call answers: 0, 10 or a refusal's number; with 10 the index of the rule in error; and how many entries
-/// the journal holds.
-#[repr(C)]
-#[derive(Debug, Clone, Copy, Default, PartialEq, Eq)]
-pub struct HostAnswer {
-    /// 0, 10 or a refusal's number.
-    pub answer: u64,
-    /// With 10, the index of the rule in error, else 0.
-    pub error: u64,
-    /// How many entries the journal holds.
-    pub visits: u64,
-}
-
-/// What a question to the controls answers: 0 and the value, or a refusal's number.
-#[repr(C)]
-#[derive(Debug, Clone, Copy, Default, PartialEq, Eq)]
-pub struct HostQueryAnswer {
-    /// 0 or a refusal's number.
-    pub answer: u64,
-    /// The value, 0 after a refusal.
-    pub value: u64,
-}
-
-/// What the question for a target answers.
-#[repr(C)]
-#[derive(Debug, Clone, Copy, Default, PartialEq, Eq)]
-pub struct HostTarget {
-    /// 0 or a refusal's number.
-    pub answer: u64,
-    /// The target's place.
-    pub target: HostPlace,
-}
-
-/// What the question for a marker answers.
-#[repr(C)]
-#[derive(Debug, Clone, Copy, Default, PartialEq, Eq)]
-pub struct HostMarker {
-    /// 0 or a refusal's number.
-    pub answer: u64,
-    /// 1 where there is a marker of the name, else 0.
-    pub present: u64,
-    /// The position of the latest such marker, else 0.
     pub position: u64,
 }
 
-/// What an addition to the controls answers, and the controls after it.
+/// A number or none: `present` is 1 or 0.
 #[repr(C)]
-#[derive(Debug, Clone, Copy, Default, PartialEq, Eq)]
-pub struct HostChangeAnswer {
-    /// 0 or a refusal's number.
-    pub answer: u64,
-    /// The controls after the addition, as given after a refusal.
-    pub controls: HostControls,
+#[derive(Debug, Clone, Copy, Default, PartialEq, Eq, Hash)]
+pub struct HostNumber {
+    pub present: u64,
+    pub value: u64,
 }
 
-/// What the directive reader answers: 0 or a refusal's number, the directive's form, and its value.
 #[repr(C)]
-#[derive(Debug, Clone, Copy, Default, PartialEq, Eq)]
-pub struct ReadRecord {
-    /// 0 or a refusal's number.
+#[derive(Debug, Clone, Copy, Default, PartialEq, Eq, Hash)]
+pub struct HostMetadata {
+    pub id: HostNumber,
+    pub msg: HostPlace,
+    pub logdata: HostPlace,
+    pub rev: HostPlace,
+    pub ver: HostPlace,
+    pub severity: HostNumber,
+    pub maturity: HostNumber,
+    pub accuracy: HostNumber,
+}
+
+/// An intervention or none.
+#[repr(C)]
+#[derive(Debug, Clone, Copy, Default, PartialEq, Eq, Hash)]
+pub struct HostIntervention {
+    pub present: u64,
+    pub status: u64,
+    pub url: HostPlace,
+    pub log: HostPlace,
+    pub closing: HostNumber,
+    pub starter: HostNumber,
+    pub phase: u64,
+    pub drop: u64,
+    pub metadata: HostMetadata,
+}
+
+#[repr(C)]
+#[derive(Debug, Clone, Copy, Default, PartialEq, Eq, Hash)]
+pub struct HostTransaction {
+    pub controls: HostControls,
+    pub allowed: u64,
+    pub intervention: HostIntervention,
+    pub ids: u64,
+    pub entries: u64,
+}
+
+/// What a phase call answers, the same from the walk to a host: 0, 10, or the number of a refusal; the index of the
+/// rule that had the error, with 10; and how many entries the journal holds.
+#[repr(C)]
+#[derive(Debug, Clone, Copy, Default, PartialEq, Eq, Hash)]
+pub struct Answer {
     pub answer: u64,
-    /// 0 unsupported, 1 ruleEngine, 2 ruleRemoveById, 3 ruleRemoveTargetById, 4 requestBodyAccess, 5 requestBodyProcessor.
-    pub form: u64,
-    /// The number of a mode, an access or a processor, how many ranges, or where a target is cut.
+    pub error: u64,
+    pub visits: u64,
+}
+
+/// The answer to a question: 0 and the number of a value, or the number of a refusal and 0.
+#[repr(C)]
+#[derive(Debug, Clone, Copy, Default, PartialEq, Eq, Hash)]
+pub struct HostQueryAnswer {
+    pub answer: u64,
     pub value: u64,
+}
+
+/// The same where the value is a target.
+#[repr(C)]
+#[derive(Debug, Clone, Copy, Default, PartialEq, Eq, Hash)]
+pub struct HostTarget {
+    pub answer: u64,
+    pub target: HostPlace,
+}
+
+/// The record after an addition, with its answer.
+#[repr(C)]
+#[derive(Debug, Clone, Copy, Default, PartialEq, Eq, Hash)]
+pub struct HostChangeAnswer {
+    pub answer: u64,
+    pub controls: HostControls,
 }

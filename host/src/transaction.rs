@@ -1,12 +1,11 @@
 //! A transaction and its phase calls.
 
 use crate::controls::Controls;
-use crate::exported;
 use crate::intervention::Intervention;
 use crate::limits::MOST_RULES;
 use crate::phase::{Before, Phase};
-use crate::raw::{Lent, Lists};
-use crate::records::{DataRecord, HostChangeAnswer, HostTransaction, JournalRecord};
+use crate::raw::{self, Lent, Lists};
+use crate::records::{DataEntry, HostChangeAnswer, HostTransaction, JournalEntry};
 use crate::ruleset::{Records, RuleSet};
 use crate::values::{Data, Mode, Outcome, Place};
 use crate::Refusal;
@@ -37,8 +36,8 @@ use crate::Refusal;
 pub struct Transaction {
     record: HostTransaction,
     ids: Vec<u64>,
-    entries: Vec<DataRecord>,
-    journal: Vec<JournalRecord>,
+    entries: Vec<DataEntry>,
+    journal: Vec<JournalEntry>,
     grows: bool,
 }
 
@@ -72,14 +71,14 @@ impl Transaction {
         Self {
             record: HostTransaction::default(),
             ids: vec![0; ids],
-            entries: vec![DataRecord::default(); entries],
-            journal: vec![JournalRecord::default(); journal],
+            entries: vec![DataEntry::default(); entries],
+            journal: vec![JournalEntry::default(); journal],
             grows: false,
         }
     }
 
     /// A transaction of a record and lists as they are, whatever they hold.
-    pub fn from_record(record: HostTransaction, ids: Vec<u64>, entries: Vec<DataRecord>) -> Self {
+    pub fn from_record(record: HostTransaction, ids: Vec<u64>, entries: Vec<DataEntry>) -> Self {
         Self {
             record,
             ids,
@@ -131,18 +130,18 @@ impl Transaction {
             phase,
             mode: mode.number(),
             status,
-            rules: exported::words(records.rules),
-            actions: exported::words(records.actions),
+            rules: raw::words(records.rules),
+            actions: raw::words(records.actions),
             markers: records.markers,
             text: records.text,
-            outcomes: exported::outcome_bytes(outcomes),
+            outcomes: raw::outcome_bytes(outcomes),
         };
         let mut lists = Lists {
             ids: &mut self.ids,
-            entries: exported::words_mut(&mut self.entries),
-            journal: exported::words_mut(&mut self.journal),
+            entries: raw::words_mut(&mut self.entries),
+            journal: raw::words_mut(&mut self.journal),
         };
-        let answer = exported::run_phase(&mut self.record, &lent, &mut lists);
+        let answer = raw::run_phase(&mut self.record, &lent, &mut lists);
         Refusal::unless(answer.answer, Phase::new(self, answer, before))
     }
 
@@ -185,17 +184,13 @@ impl Transaction {
     /// Removes all rules with an id from `start` to `end`, both included, as a ruleRemoveById does. Refused with 5 (start
     /// above end) and 8 (256 ranges are held).
     pub fn remove_range(&mut self, start: u64, end: u64) -> Result<(), Refusal> {
-        self.change(exported::remove_range(self.record.controls, start, end))
+        self.change(raw::remove_range(self.record.controls, start, end))
     }
 
     /// Removes the target whose action stands at a place. Refused with 9 (64 targets are held).
     pub fn remove_target(&mut self, target: Place) -> Result<(), Refusal> {
         let Place { phase, position } = target;
-        self.change(exported::remove_target(
-            self.record.controls,
-            phase,
-            position,
-        ))
+        self.change(raw::remove_target(self.record.controls, phase, position))
     }
 
     fn change(&mut self, changed: HostChangeAnswer) -> Result<(), Refusal> {
@@ -208,11 +203,11 @@ impl Transaction {
         &self.record
     }
 
-    pub(crate) fn data_records(&self) -> &[DataRecord] {
+    pub(crate) fn data_records(&self) -> &[DataEntry] {
         used(&self.entries, self.record.entries)
     }
 
-    pub(crate) fn journal(&self) -> &[JournalRecord] {
+    pub(crate) fn journal(&self) -> &[JournalEntry] {
         &self.journal
     }
 }

@@ -2,7 +2,7 @@
 
 use std::fmt;
 
-use crate::records::{HostNumber, HostPlace};
+use crate::records::{HostNumber, HostPlace, Part};
 
 /// The mode of a rule set, and the one in force.
 #[derive(Debug, Clone, Copy, PartialEq, Eq, Hash)]
@@ -135,6 +135,21 @@ pub struct Data {
     pub phase: u64,
     /// The rule's index.
     pub index: u64,
+}
+
+impl Part {
+    /// The part's bytes, none where it is not inside the text.
+    ///
+    /// ```
+    /// let part = tivembo::Part { start: 2, len: 3 };
+    /// assert_eq!(part.of(b"a marker"), Some(&b"mar"[..]));
+    /// assert_eq!(part.of(b"mark"), None);
+    /// ```
+    pub fn of(self, text: &[u8]) -> Option<&[u8]> {
+        let start = usize::try_from(self.start).ok()?;
+        let end = start.checked_add(usize::try_from(self.len).ok()?)?;
+        text.get(start..end)
+    }
 }
 
 impl HostNumber {

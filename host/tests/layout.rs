@@ -1,340 +1,106 @@
-//! The records have the layout of the Rattle side.
+//! Written by tools/declarations from the Rattle sources in crates/; not to be changed by hand.
 //!
-//! Sizes and offsets are compared with the order that crates/abi_phase, the crates of its parts and crates/reading declare,
-//! written down here once more. The calls then show that the library agrees: every number of a transaction is written or
-//! read by a call, with values that all differ, so that two exchanged fields, or one at another offset, would be seen.
+//! The records have the sizes and offsets that follow from the order of the fields in the Rattle sources. That the
+//! library itself has them is shown by tests/through_calls.rs.
 
-use std::mem::{offset_of, size_of};
+use std::mem::{align_of, offset_of, size_of};
 
-use tivembo::raw::{self, Lent, Lists};
-use tivembo::{
-    Act, Action, DataRecord, HostAnswer, HostChangeAnswer, HostControls, HostIntervention,
-    HostMarker, HostMetadata, HostNumber, HostPlace, HostQueryAnswer, HostTarget, HostTransaction,
-    JournalRecord, Marker, Part, Rule, RuleSet, MOST_RANGES, MOST_TARGETS,
-};
+use tivembo::records::*;
 
-/// Sizes and offsets in numbers of 64 bits.
-macro_rules! words {
-    ($type:ty, $size:expr, $($field:ident $at:expr),*) => {
-        assert_eq!(size_of::<$type>(), 8 * $size, stringify!($type));
-        $(assert_eq!(offset_of!($type, $field), 8 * $at, concat!(stringify!($type), ".", stringify!($field)));)*
+/// The size, the alignment and the offsets of a record, in bytes.
+macro_rules! layout {
+    ($type:ty, $size:expr, $align:expr, $($field:ident $at:expr),*) => {
+        assert_eq!((size_of::<$type>(), align_of::<$type>()), ($size, $align));
+        $(assert_eq!(offset_of!($type, $field), $at, stringify!($field));)*
     };
 }
 
 #[test]
-fn sizes_and_offsets_of_the_lent_records() {
-    words!(Part, 2, start 0, len 1);
-    words!(Rule, 5, present 0, id 1, link 2, first 3, count 4);
-    words!(Action, 6, kind 0, number 1, text 2, value 4);
-    words!(Marker, 3, name 0, position 2);
-    words!(DataRecord, 4, present 0, id 1, phase 2, index 3);
-    words!(JournalRecord, 2, index 0, verdict 1);
-    words!(HostNumber, 2, present 0, value 1);
-    words!(HostPlace, 3, present 0, phase 1, position 2);
-    words!(HostControls, 645, mode 0, access 1, processor 2, ranges 3, targets 4, starts 5, ends 261, phases 517, positions 581);
-    words!(HostMetadata, 20, id 0, msg 2, logdata 5, rev 8, ver 11, severity 14, maturity 16, accuracy 18);
-    words!(HostIntervention, 34, present 0, status 1, url 2, log 5, closing 8, starter 10, phase 12, drop 13, metadata 14);
-    words!(HostTransaction, 682, controls 0, allowed 645, intervention 646, ids 680, entries 681);
+fn rule() {
+    layout!(Rule, 40, 8, present 0, id 8, link 16, first 24, count 32);
 }
 
 #[test]
-fn sizes_and_offsets_of_the_answers() {
-    words!(HostAnswer, 3, answer 0, error 1, visits 2);
-    words!(HostQueryAnswer, 2, answer 0, value 1);
-    words!(HostTarget, 4, answer 0, target 1);
-    words!(HostMarker, 3, answer 0, present 1, position 2);
-    words!(HostChangeAnswer, 646, answer 0, controls 1);
-    words!(raw::ReadRecord, 3, answer 0, form 1, value 2);
-}
-
-/// Controls in which every number of the arrays differs.
-fn pattern() -> HostControls {
-    let list = |first: u64| move |at: usize| first + 10 * at as u64;
-    HostControls {
-        starts: std::array::from_fn(list(1_000_001)),
-        ends: std::array::from_fn(list(1_000_005)),
-        phases: std::array::from_fn(list(3_000_000)),
-        positions: std::array::from_fn(list(4_000_000)),
-        ..HostControls::default()
-    }
+fn part() {
+    layout!(Part, 16, 8, start 0, len 8);
 }
 
 #[test]
-fn every_number_of_the_controls_is_read() {
-    let held = HostControls {
-        mode: 2,
-        access: 2,
-        processor: 4,
-        ranges: MOST_RANGES as u64,
-        targets: MOST_TARGETS as u64,
-        ..pattern()
-    };
-    assert_eq!(raw::engine_mode(held, 0).value, 1);
-    assert_eq!(raw::request_body_access(held).value, 1);
-    assert_eq!(raw::request_body_processor(held).value, 4);
-    assert_eq!(raw::target_count(held).value, MOST_TARGETS as u64);
-    for at in 0..MOST_RANGES {
-        let asked = |id: u64| raw::is_rule_removed(held, Some(id).into()).value;
-        let (start, end) = (held.starts[at], held.ends[at]);
-        let around = [start - 1, start, end, end + 1];
-        assert_eq!(around.map(asked), [0, 1, 1, 0], "range {at}");
-    }
-    for at in 0..MOST_TARGETS {
-        let (phase, position) = (held.phases[at], held.positions[at]);
-        let found = raw::target_at(held, at as u64).target;
-        let expected = HostPlace {
-            present: 1,
-            phase,
-            position,
-        };
-        assert_eq!(found, expected, "target {at}");
-    }
+fn action() {
+    layout!(Action, 48, 8, kind 0, number 8, text 16, value 32);
 }
 
 #[test]
-fn every_number_of_the_controls_is_written() {
-    let mut held = pattern();
-    for at in 0..MOST_RANGES {
-        let (start, end) = (7 + at as u64, 900 + at as u64);
-        let changed = raw::remove_range(held, start, end);
-        (held.starts[at], held.ends[at]) = (start, end);
-        held.ranges += 1;
-        assert_eq!((changed.answer, changed.controls), (0, held), "range {at}");
-    }
-    for at in 0..MOST_TARGETS {
-        let (phase, position) = (1 + at as u64, 5_000 + at as u64);
-        let changed = raw::remove_target(held, phase, position);
-        (held.phases[at], held.positions[at]) = (phase, position);
-        held.targets += 1;
-        assert_eq!((changed.answer, changed.controls), (0, held), "target {at}");
-    }
-}
-
-/// A link that starts a unit, with an action of every kind that is kept, and the rule that closes it.
-fn rules(stops: Act) -> RuleSet {
-    let mut rules = RuleSet::builder();
-    let actions = [
-        Act::Id(77),
-        stops,
-        Act::Msg(b"m"),
-        Act::LogData(b"l"),
-        Act::Rev(b"r"),
-        Act::Ver(b"v"),
-        Act::Severity(61),
-        Act::Maturity(62),
-        Act::Accuracy(63),
-        Act::Ctl(b"ruleEngine", b"On"),
-        Act::Ctl(b"requestBodyAccess", b"Off"),
-        Act::Ctl(b"requestBodyProcessor", b"JSON"),
-        Act::Ctl(b"ruleRemoveById", b"500-600,700"),
-        Act::Ctl(b"ruleRemoveTargetById", b"1;ARGS"),
-    ];
-    rules.rule(Some(20), true, &actions);
-    rules.rule(Some(21), false, &[]);
-    rules.build().expect("within the limits")
-}
-
-fn place(position: u64) -> HostPlace {
-    HostPlace {
-        present: 1,
-        phase: 3,
-        position,
-    }
-}
-
-fn number(value: u64) -> HostNumber {
-    HostNumber { present: 1, value }
-}
-
-/// What the unit leaves, in a transaction that held three ranges and two targets.
-fn expected(status: u64, url: HostPlace, drop: u64) -> HostTransaction {
-    let intervention = HostIntervention {
-        present: 1,
-        status,
-        url,
-        log: place(2),
-        closing: number(21),
-        starter: number(77),
-        phase: 3,
-        drop,
-        metadata: metadata(),
-    };
-    HostTransaction {
-        controls: controls(),
-        allowed: 0,
-        intervention,
-        ids: 5,
-        entries: 4,
-    }
-}
-
-fn controls() -> HostControls {
-    let mut controls = HostControls {
-        mode: 1,
-        access: 2,
-        processor: 3,
-        ranges: 5,
-        targets: 3,
-        ..pattern()
-    };
-    (controls.starts[3], controls.ends[3]) = (500, 600);
-    (controls.starts[4], controls.ends[4]) = (700, 700);
-    (controls.phases[2], controls.positions[2]) = (3, 13);
-    controls
-}
-
-fn metadata() -> HostMetadata {
-    HostMetadata {
-        id: number(77),
-        msg: place(2),
-        logdata: place(3),
-        rev: place(4),
-        ver: place(5),
-        severity: number(61),
-        maturity: number(62),
-        accuracy: number(63),
-    }
-}
-
-/// Lends everything with a pattern in it, and compares everything after the call.
-fn check(stops: Act, wanted: &HostTransaction) {
-    let rules = rules(stops);
-    let records = rules.records();
-    let lent = Lent {
-        phase: 3,
-        mode: 0,
-        status: 403,
-        rules: raw::words(records.rules),
-        actions: raw::words(records.actions),
-        markers: records.markers,
-        text: records.text,
-        outcomes: &[2, 2],
-    };
-    let mut transaction = HostTransaction {
-        controls: HostControls {
-            ranges: 3,
-            targets: 2,
-            ..pattern()
-        },
-        ids: 4,
-        entries: 2,
-        ..HostTransaction::default()
-    };
-    let (mut ids, mut entries, mut journal) = ([9; 7], [8; 17], [7; 5]);
-    let mut lists = Lists {
-        ids: &mut ids,
-        entries: &mut entries,
-        journal: &mut journal,
-    };
-    let answer = raw::run_phase(&mut transaction, &lent, &mut lists);
-    let visited = HostAnswer {
-        visits: 2,
-        ..HostAnswer::default()
-    };
-    assert_eq!(answer, visited);
-    assert_eq!(transaction, *wanted);
-    assert_eq!(ids, [9, 9, 9, 9, 20, 9, 9]);
-    assert_eq!(entries[8..16], [1, 20, 3, 0, 1, 21, 3, 1]);
-    assert!(entries[..8].iter().chain(&entries[16..]).all(|&n| n == 8));
-    assert_eq!(journal, [0, 1, 1, 1, 7]);
+fn marker() {
+    layout!(Marker, 24, 8, name 0, position 16);
 }
 
 #[test]
-fn every_number_of_a_transaction_is_written() {
-    let none = HostPlace::default();
-    check(Act::Redirect(b"u"), &expected(302, place(1), 0));
-    check(Act::Drop, &expected(444, none, 1));
-    check(Act::Block, &expected(403, none, 0));
-}
-
-/// The flags that a call reads: with each of them it has nothing to do.
-#[test]
-fn the_flags_of_a_transaction_are_read() {
-    let lent = Lent {
-        phase: 1,
-        rules: &[0; 5],
-        outcomes: &[1],
-        ..Lent::default()
-    };
-    let stopped = HostIntervention {
-        present: 1,
-        ..HostIntervention::default()
-    };
-    let idle = |change: &dyn Fn(&mut HostTransaction)| {
-        let mut transaction = HostTransaction::default();
-        change(&mut transaction);
-        let before = transaction;
-        let (mut ids, mut entries, mut journal) = ([0; 1], [0; 4], [0; 2]);
-        let mut lists = Lists {
-            ids: &mut ids,
-            entries: &mut entries,
-            journal: &mut journal,
-        };
-        let answer = raw::run_phase(&mut transaction, &lent, &mut lists);
-        assert_eq!((answer.answer, transaction), (0, before));
-        answer.visits
-    };
-    assert_eq!(idle(&|_| ()), 1);
-    assert_eq!(idle(&|t| t.allowed = 1), 0);
-    assert_eq!(idle(&|t| t.intervention = stopped), 0);
-    assert_eq!(idle(&|t| t.controls.mode = 3), 0);
+fn data_entry() {
+    layout!(DataEntry, 32, 8, present 0, id 8, phase 16, index 24);
 }
 
 #[test]
-fn every_number_of_an_answer() {
-    let lent = Lent {
-        phase: 1,
-        rules: &[0; 10],
-        outcomes: &[1, 3],
-        ..Lent::default()
-    };
-    let (mut ids, mut entries, mut journal) = ([0; 2], [0; 8], [0; 4]);
-    let mut lists = Lists {
-        ids: &mut ids,
-        entries: &mut entries,
-        journal: &mut journal,
-    };
-    let answer = raw::run_phase(&mut HostTransaction::default(), &lent, &mut lists);
-    let expected = HostAnswer {
-        answer: 10,
-        error: 1,
-        visits: 2,
-    };
-    assert_eq!(answer, expected);
-    assert_eq!(journal, [0, 1, 1, 3]);
+fn journal_entry() {
+    layout!(JournalEntry, 16, 8, index 0, verdict 8);
 }
 
 #[test]
-fn lists_of_records_are_their_numbers() {
-    let rule = Rule {
-        present: 1,
-        id: 2,
-        link: 3,
-        first: 4,
-        count: 5,
-    };
-    let action = Action {
-        kind: 1,
-        number: 2,
-        text: Part { start: 3, len: 4 },
-        value: Part { start: 5, len: 6 },
-    };
-    assert_eq!(raw::words(&[rule, rule]), [1, 2, 3, 4, 5, 1, 2, 3, 4, 5]);
-    assert_eq!(raw::words(&[action]), [1, 2, 3, 4, 5, 6]);
-    let mut entries = [DataRecord::default(); 2];
-    raw::words_mut(&mut entries)[4..].copy_from_slice(&[1, 2, 3, 4]);
-    let entry = DataRecord {
-        present: 1,
-        id: 2,
-        phase: 3,
-        index: 4,
-    };
-    assert_eq!(entries, [DataRecord::default(), entry]);
-    let mut journal = [JournalRecord::default(); 1];
-    raw::words_mut(&mut journal).copy_from_slice(&[5, 6]);
-    let visit = JournalRecord {
-        index: 5,
-        verdict: 6,
-    };
-    assert_eq!(journal, [visit]);
+fn read_record() {
+    layout!(ReadRecord, 24, 8, answer 0, form 8, value 16);
+}
+
+#[test]
+fn host_marker() {
+    layout!(HostMarker, 24, 8, answer 0, present 8, position 16);
+}
+
+#[test]
+fn host_controls() {
+    layout!(HostControls, 5160, 8, mode 0, access 8, processor 16, ranges 24, targets 32, starts 40, ends 2088, phases 4136, positions 4648);
+}
+
+#[test]
+fn host_place() {
+    layout!(HostPlace, 24, 8, present 0, phase 8, position 16);
+}
+
+#[test]
+fn host_number() {
+    layout!(HostNumber, 16, 8, present 0, value 8);
+}
+
+#[test]
+fn host_metadata() {
+    layout!(HostMetadata, 160, 8, id 0, msg 16, logdata 40, rev 64, ver 88, severity 112, maturity 128, accuracy 144);
+}
+
+#[test]
+fn host_intervention() {
+    layout!(HostIntervention, 272, 8, present 0, status 8, url 16, log 40, closing 64, starter 80, phase 96, drop 104, metadata 112);
+}
+
+#[test]
+fn host_transaction() {
+    layout!(HostTransaction, 5456, 8, controls 0, allowed 5160, intervention 5168, ids 5440, entries 5448);
+}
+
+#[test]
+fn answer() {
+    layout!(Answer, 24, 8, answer 0, error 8, visits 16);
+}
+
+#[test]
+fn host_query_answer() {
+    layout!(HostQueryAnswer, 16, 8, answer 0, value 8);
+}
+
+#[test]
+fn host_target() {
+    layout!(HostTarget, 32, 8, answer 0, target 8);
+}
+
+#[test]
+fn host_change_answer() {
+    layout!(HostChangeAnswer, 5168, 8, answer 0, controls 8);
 }

@@ -1,0 +1,141 @@
+/* Walks 01's cases C2 and C8 through the library, as a gateway in C does, and prints what they give. Last, the controls by value:
+   a range is added, and two ids are asked for. host/c/test compares what is printed with walk.expected. */
+#include <inttypes.h>
+#include <stdio.h>
+
+#include "tivembo.h"
+
+/* 01's number of an id action; the sources have no constant for it. */
+#define KIND_ID UINT64_C(11)
+/* 01: "2 matched with one", a variable. */
+#define MATCHED_WITH_A_VARIABLE 2
+
+#define MOST_RULES 2
+#define COUNT(list) (sizeof(list) / sizeof((list)[0]))
+
+/* The rules of a phase. A list is never null, so one without an entry is some list and the length 0. */
+typedef struct Rules {
+    const TivemboRule *rules;
+    size_t rules_len;
+    const TivemboAction *actions;
+    size_t actions_len;
+    const TivemboMarker *markers;
+    size_t markers_len;
+    const uint8_t *text;
+    size_t text_len;
+} Rules;
+
+/* What a call writes. */
+typedef struct Lists {
+    uint64_t ids[MOST_RULES];
+    TivemboDataEntry entries[MOST_RULES];
+    TivemboJournalEntry journal[MOST_RULES];
+} Lists;
+
+static const uint8_t OUTCOMES[MOST_RULES] = {MATCHED_WITH_A_VARIABLE, MATCHED_WITH_A_VARIABLE};
+static const TivemboMarker A_AT_1[] = {{.name = {.start = 0, .len = 1}, .position = 1}};
+static const uint8_t TEXT[] = {'A'};
+
+/* Phase 2 of a request, in mode On, where block stands for 403. */
+static TivemboAnswer run(TivemboHostTransaction *transaction, const Rules *given, Lists *lists) {
+    return tivembo_run_phase(
+        transaction,
+        2,
+        TIVEMBO_MODE_ON,
+        403,
+        (const uint64_t *)given->rules, given->rules_len * TIVEMBO_WIDTH_RULE,
+        (const uint64_t *)given->actions, given->actions_len * TIVEMBO_WIDTH_ACTION,
+        given->markers, given->markers_len,
+        given->text, given->text_len,
+        OUTCOMES, given->rules_len,
+        lists->ids, COUNT(lists->ids),
+        (uint64_t *)lists->entries, COUNT(lists->entries) * TIVEMBO_WIDTH_DATA_ENTRY,
+        (uint64_t *)lists->journal, COUNT(lists->journal) * TIVEMBO_WIDTH_JOURNAL_ENTRY);
+}
+
+static void print_number(TivemboHostNumber number) {
+    if (number.present == TIVEMBO_PRESENT_SOME) {
+        printf(" %" PRIu64, number.value);
+    }
+}
+
+static void print_intervention(const TivemboHostIntervention *found) {
+    printf("intervention");
+    if (found->present == TIVEMBO_PRESENT_SOME) {
+        printf(" status %" PRIu64 " ids", found->status);
+        print_number(found->closing);
+        print_number(found->starter);
+    } else {
+        printf(" none");
+    }
+    printf("\n");
+}
+
+static void walk(const char *name, const Rules *given) {
+    static const char *const verdicts[] = {"missed", "matched", "removed", "error"};
+    TivemboHostTransaction transaction = {0};
+    Lists lists = {0};
+    TivemboAnswer answer = run(&transaction, given, &lists);
+
+    printf("%s\nanswer %" PRIu64 "\nvisits", name, answer.answer);
+    for (uint64_t at = 0; at < answer.visits; at++) {
+        printf(" %" PRIu64 ":%s", lists.journal[at].index, verdicts[lists.journal[at].verdict]);
+    }
+    printf("\nids");
+    for (uint64_t at = 0; at < transaction.ids; at++) {
+        printf(" %" PRIu64, lists.ids[at]);
+    }
+    printf("\ndata");
+    for (uint64_t at = 0; at < transaction.entries; at++) {
+        printf(" %" PRIu64 "@%" PRIu64, lists.entries[at].id, lists.entries[at].index);
+    }
+    printf("\n");
+    print_intervention(&transaction.intervention);
+}
+
+/* 10 deny. */
+static void c2(void) {
+    static const TivemboRule rules[] = {{.present = 1, .id = 10, .first = 0, .count = 2}};
+    static const TivemboAction actions[] = {{.kind = KIND_ID, .number = 10}, {.kind = TIVEMBO_KIND_DENY}};
+    const Rules given = {rules, COUNT(rules), actions, COUNT(actions), A_AT_1, 0, TEXT, 0};
+    walk("C2", &given);
+}
+
+/* 30 skipAfter A; 31 deny; A at 1. */
+static void c8(void) {
+    static const TivemboRule rules[] = {
+        {.present = 1, .id = 30, .first = 0, .count = 2},
+        {.present = 1, .id = 31, .first = 2, .count = 2},
+    };
+    static const TivemboAction actions[] = {
+        {.kind = KIND_ID, .number = 30},
+        {.kind = TIVEMBO_KIND_SKIP_AFTER, .text = {.start = 0, .len = 1}},
+        {.kind = KIND_ID, .number = 31},
+        {.kind = TIVEMBO_KIND_DENY},
+    };
+    const Rules given = {rules, COUNT(rules), actions, COUNT(actions), A_AT_1, COUNT(A_AT_1), TEXT, COUNT(TEXT)};
+    walk("C8", &given);
+
+    TivemboHostMarker found =
+        tivembo_marker_position(A_AT_1, COUNT(A_AT_1), COUNT(rules), TEXT, COUNT(TEXT), TEXT, COUNT(TEXT));
+    printf("marker A answer %" PRIu64 " present %" PRIu64 " position %" PRIu64 "\n", found.answer, found.present, found.position);
+}
+
+/* A range from 942100 to 942999 is removed, both ends too. */
+static void controls(void) {
+    TivemboHostControls none = {0};
+    TivemboHostChangeAnswer changed = tivembo_remove_range(none, 942100, 942999);
+    printf("controls\nanswer %" PRIu64 " ranges %" PRIu64 "\n", changed.answer, changed.controls.ranges);
+    for (uint64_t id = 942999; id <= 943000; id++) {
+        TivemboHostNumber asked = {.present = TIVEMBO_PRESENT_SOME, .value = id};
+        TivemboHostQueryAnswer answer = tivembo_is_rule_removed(changed.controls, asked);
+        printf("removed %" PRIu64 " answer %" PRIu64 " value %" PRIu64 "\n", id, answer.answer, answer.value);
+    }
+}
+
+int main(void) {
+    c2();
+    c8();
+    controls();
+    return 0;
+}

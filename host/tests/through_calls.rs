@@ -1,0 +1,331 @@
+//! The library has the records as they are declared: every number of every record is written or read by a call, with values
+//! that all differ, so that two exchanged fields, or one at another offset, would be seen. tests/layout.rs has the sizes and
+//! offsets that follow from the sources.
+
+use tivembo::raw::{self, Lent, Lists};
+use tivembo::{
+    Act, Action, DataEntry, HostAnswer, HostControls, HostIntervention, HostMetadata, HostNumber,
+    HostPlace, HostTransaction, JournalEntry, Marker, Part, Rule, RuleSet, MOST_RANGES,
+    MOST_TARGETS,
+};
+
+/// Controls in which every number of the arrays differs.
+fn pattern() -> HostControls {
+    let list = |first: u64| move |at: usize| first + 10 * at as u64;
+    HostControls {
+        starts: std::array::from_fn(list(1_000_001)),
+        ends: std::array::from_fn(list(1_000_005)),
+        phases: std::array::from_fn(list(3_000_000)),
+        positions: std::array::from_fn(list(4_000_000)),
+        ..HostControls::default()
+    }
+}
+
+#[test]
+fn every_number_of_the_controls_is_read() {
+    let held = HostControls {
+        mode: 2,
+        access: 2,
+        processor: 4,
+        ranges: MOST_RANGES as u64,
+        targets: MOST_TARGETS as u64,
+        ..pattern()
+    };
+    assert_eq!(raw::engine_mode(held, 0).value, 1);
+    assert_eq!(raw::request_body_access(held).value, 1);
+    assert_eq!(raw::request_body_processor(held).value, 4);
+    assert_eq!(raw::target_count(held).value, MOST_TARGETS as u64);
+    for at in 0..MOST_RANGES {
+        let asked = |id: u64| raw::is_rule_removed(held, Some(id).into()).value;
+        let (start, end) = (held.starts[at], held.ends[at]);
+        let around = [start - 1, start, end, end + 1];
+        assert_eq!(around.map(asked), [0, 1, 1, 0], "range {at}");
+    }
+    for at in 0..MOST_TARGETS {
+        let (phase, position) = (held.phases[at], held.positions[at]);
+        let found = raw::target_at(held, at as u64).target;
+        let expected = HostPlace {
+            present: 1,
+            phase,
+            position,
+        };
+        assert_eq!(found, expected, "target {at}");
+    }
+}
+
+#[test]
+fn every_number_of_the_controls_is_written() {
+    let mut held = pattern();
+    for at in 0..MOST_RANGES {
+        let (start, end) = (7 + at as u64, 900 + at as u64);
+        let changed = raw::remove_range(held, start, end);
+        (held.starts[at], held.ends[at]) = (start, end);
+        held.ranges += 1;
+        assert_eq!((changed.answer, changed.controls), (0, held), "range {at}");
+    }
+    for at in 0..MOST_TARGETS {
+        let (phase, position) = (1 + at as u64, 5_000 + at as u64);
+        let changed = raw::remove_target(held, phase, position);
+        (held.phases[at], held.positions[at]) = (phase, position);
+        held.targets += 1;
+        assert_eq!((changed.answer, changed.controls), (0, held), "target {at}");
+    }
+}
+
+/// A link that starts a unit, with an action of every kind that is kept, and the rule that closes it.
+fn rules(stops: Act) -> RuleSet {
+    let mut rules = RuleSet::builder();
+    let actions = [
+        Act::Id(77),
+        stops,
+        Act::Msg(b"m"),
+        Act::LogData(b"l"),
+        Act::Rev(b"r"),
+        Act::Ver(b"v"),
+        Act::Severity(61),
+        Act::Maturity(62),
+        Act::Accuracy(63),
+        Act::Ctl(b"ruleEngine", b"On"),
+        Act::Ctl(b"requestBodyAccess", b"Off"),
+        Act::Ctl(b"requestBodyProcessor", b"JSON"),
+        Act::Ctl(b"ruleRemoveById", b"500-600,700"),
+        Act::Ctl(b"ruleRemoveTargetById", b"1;ARGS"),
+    ];
+    rules.rule(Some(20), true, &actions);
+    rules.rule(Some(21), false, &[]);
+    rules.build().expect("within the limits")
+}
+
+fn place(position: u64) -> HostPlace {
+    HostPlace {
+        present: 1,
+        phase: 3,
+        position,
+    }
+}
+
+fn number(value: u64) -> HostNumber {
+    HostNumber { present: 1, value }
+}
+
+/// What the unit leaves, in a transaction that held three ranges and two targets.
+fn expected(status: u64, url: HostPlace, drop: u64) -> HostTransaction {
+    let intervention = HostIntervention {
+        present: 1,
+        status,
+        url,
+        log: place(2),
+        closing: number(21),
+        starter: number(77),
+        phase: 3,
+        drop,
+        metadata: metadata(),
+    };
+    HostTransaction {
+        controls: controls(),
+        allowed: 0,
+        intervention,
+        ids: 5,
+        entries: 4,
+    }
+}
+
+fn controls() -> HostControls {
+    let mut controls = HostControls {
+        mode: 1,
+        access: 2,
+        processor: 3,
+        ranges: 5,
+        targets: 3,
+        ..pattern()
+    };
+    (controls.starts[3], controls.ends[3]) = (500, 600);
+    (controls.starts[4], controls.ends[4]) = (700, 700);
+    (controls.phases[2], controls.positions[2]) = (3, 13);
+    controls
+}
+
+fn metadata() -> HostMetadata {
+    HostMetadata {
+        id: number(77),
+        msg: place(2),
+        logdata: place(3),
+        rev: place(4),
+        ver: place(5),
+        severity: number(61),
+        maturity: number(62),
+        accuracy: number(63),
+    }
+}
+
+/// Lends everything with a pattern in it, and compares everything after the call.
+fn check(stops: Act, wanted: &HostTransaction) {
+    let rules = rules(stops);
+    let records = rules.records();
+    let lent = Lent {
+        phase: 3,
+        mode: 0,
+        status: 403,
+        rules: raw::words(records.rules),
+        actions: raw::words(records.actions),
+        markers: records.markers,
+        text: records.text,
+        outcomes: &[2, 2],
+    };
+    let mut transaction = HostTransaction {
+        controls: HostControls {
+            ranges: 3,
+            targets: 2,
+            ..pattern()
+        },
+        ids: 4,
+        entries: 2,
+        ..HostTransaction::default()
+    };
+    let (mut ids, mut entries, mut journal) = ([9; 7], [8; 17], [7; 5]);
+    let mut lists = Lists {
+        ids: &mut ids,
+        entries: &mut entries,
+        journal: &mut journal,
+    };
+    let answer = raw::run_phase(&mut transaction, &lent, &mut lists);
+    let visited = HostAnswer {
+        visits: 2,
+        ..HostAnswer::default()
+    };
+    assert_eq!(answer, visited);
+    assert_eq!(transaction, *wanted);
+    assert_eq!(ids, [9, 9, 9, 9, 20, 9, 9]);
+    assert_eq!(entries[8..16], [1, 20, 3, 0, 1, 21, 3, 1]);
+    assert!(entries[..8].iter().chain(&entries[16..]).all(|&n| n == 8));
+    assert_eq!(journal, [0, 1, 1, 1, 7]);
+}
+
+#[test]
+fn every_number_of_a_transaction_is_written() {
+    let none = HostPlace::default();
+    check(Act::Redirect(b"u"), &expected(302, place(1), 0));
+    check(Act::Drop, &expected(444, none, 1));
+    check(Act::Block, &expected(403, none, 0));
+}
+
+/// The flags that a call reads: with each of them it has nothing to do.
+#[test]
+fn the_flags_of_a_transaction_are_read() {
+    let lent = Lent {
+        phase: 1,
+        rules: &[0; 5],
+        outcomes: &[1],
+        ..Lent::default()
+    };
+    let stopped = HostIntervention {
+        present: 1,
+        ..HostIntervention::default()
+    };
+    let idle = |change: &dyn Fn(&mut HostTransaction)| {
+        let mut transaction = HostTransaction::default();
+        change(&mut transaction);
+        let before = transaction;
+        let (mut ids, mut entries, mut journal) = ([0; 1], [0; 4], [0; 2]);
+        let mut lists = Lists {
+            ids: &mut ids,
+            entries: &mut entries,
+            journal: &mut journal,
+        };
+        let answer = raw::run_phase(&mut transaction, &lent, &mut lists);
+        assert_eq!((answer.answer, transaction), (0, before));
+        answer.visits
+    };
+    assert_eq!(idle(&|_| ()), 1);
+    assert_eq!(idle(&|t| t.allowed = 1), 0);
+    assert_eq!(idle(&|t| t.intervention = stopped), 0);
+    assert_eq!(idle(&|t| t.controls.mode = 3), 0);
+}
+
+#[test]
+fn every_number_of_an_answer() {
+    let lent = Lent {
+        phase: 1,
+        rules: &[0; 10],
+        outcomes: &[1, 3],
+        ..Lent::default()
+    };
+    let (mut ids, mut entries, mut journal) = ([0; 2], [0; 8], [0; 4]);
+    let mut lists = Lists {
+        ids: &mut ids,
+        entries: &mut entries,
+        journal: &mut journal,
+    };
+    let answer = raw::run_phase(&mut HostTransaction::default(), &lent, &mut lists);
+    let expected = HostAnswer {
+        answer: 10,
+        error: 1,
+        visits: 2,
+    };
+    assert_eq!(answer, expected);
+    assert_eq!(journal, [0, 1, 1, 3]);
+}
+
+#[test]
+fn every_number_of_a_directive_and_of_a_marker() {
+    let read = raw::read_directive(b"ruleRemoveTargetById", b"12;ARGS", &mut [], &mut []);
+    assert_eq!((read.answer, read.form, read.value), (0, 3, 2));
+    let read = raw::read_directive(b"ruleRemoveById", b"12", &mut [], &mut []);
+    assert_eq!((read.answer, read.form, read.value), (7, 0, 0));
+
+    let name = Part { start: 1, len: 2 };
+    let marker = Marker { name, position: 3 };
+    let found = raw::marker_position(&[marker], 4, b"xyz", b"yz");
+    assert_eq!((found.answer, found.present, found.position), (0, 1, 3));
+    let refused = raw::marker_position(&[marker], 2, b"xyz", b"yz");
+    assert_eq!(refused.answer, 5);
+}
+
+#[test]
+fn every_refusal_of_a_question_and_of_an_addition() {
+    let beyond = HostControls {
+        targets: MOST_TARGETS as u64 + 1,
+        ..pattern()
+    };
+    let asked = raw::target_count(beyond);
+    assert_eq!((asked.answer, asked.value), (3, 0));
+    let asked = raw::target_at(beyond, 0);
+    assert_eq!((asked.answer, asked.target), (3, HostPlace::default()));
+    let refused = raw::remove_range(pattern(), 8, 7);
+    assert_eq!((refused.answer, refused.controls), (5, pattern()));
+}
+
+#[test]
+fn lists_of_records_are_their_numbers() {
+    let rule = Rule {
+        present: 1,
+        id: 2,
+        link: 3,
+        first: 4,
+        count: 5,
+    };
+    let action = Action {
+        kind: 1,
+        number: 2,
+        text: Part { start: 3, len: 4 },
+        value: Part { start: 5, len: 6 },
+    };
+    assert_eq!(raw::words(&[rule, rule]), [1, 2, 3, 4, 5, 1, 2, 3, 4, 5]);
+    assert_eq!(raw::words(&[action]), [1, 2, 3, 4, 5, 6]);
+    let mut entries = [DataEntry::default(); 2];
+    raw::words_mut(&mut entries)[4..].copy_from_slice(&[1, 2, 3, 4]);
+    let entry = DataEntry {
+        present: 1,
+        id: 2,
+        phase: 3,
+        index: 4,
+    };
+    assert_eq!(entries, [DataEntry::default(), entry]);
+    let mut journal = [JournalEntry::default(); 1];
+    raw::words_mut(&mut journal).copy_from_slice(&[5, 6]);
+    let visit = JournalEntry {
+        index: 5,
+        verdict: 6,
+    };
+    assert_eq!(journal, [visit]);
+}
