@@ -10,14 +10,23 @@ ghost use Rattle.abi.specs.HostControls.{controlsFromHost, controlsToHos
 // The settings by number, 0 where one is not set, and the arrays with how many of their places are in use.
 #[repr(C)]
 pub struct HostControls {
+    // 0 not set, 1 On, 2 DetectionOnly, 3 Off.
     pub mode: u64,
+    // 0 not set, 1 On, 2 Off.
     pub access: u64,
+    // 0 not set, 1 URLENCODED, 2 MULTIPART, 3 JSON, 4 XML.
     pub processor: u64,
+    // How many ranges are held.
     pub ranges: u64,
+    // How many targets are held.
     pub targets: u64,
+    // Where the ranges start.
     pub starts: [u64; limits::RANGES],
+    // Where the ranges end; both ends are removed.
     pub ends: [u64; limits::RANGES],
+    // The phases of the targets' places.
     pub phases: [u64; limits::TARGETS],
+    // The positions of the targets' places.
     pub positions: [u64; limits::TARGETS],
 }
 

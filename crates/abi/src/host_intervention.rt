@@ -11,6 +11,7 @@ use reading::RuleMetadata;
 ghost use mathlib.Core.Path.{_≡_};
 ghost use Rattle.abi.specs.HostIntervention.{metadataOf, hostMetadata, metadataKnown, interventionOf, hostStop, noStop, hostIntervention, interventionKnown};
 
+// The metadata of the rule that started the unit: the last action of each kind.
 #[repr(C)]
 pub struct HostMetadata {
     pub id: HostNumber,
@@ -26,14 +27,22 @@ pub struct HostMetadata {
 // An intervention or none.
 #[repr(C)]
 pub struct HostIntervention {
+    // 1 where there is an intervention, else 0.
     pub present: u64,
     pub status: u64,
+    // Where a redirect leads.
     pub url: HostPlace,
+    // The log text, the starter's msg.
     pub log: HostPlace,
+    // The closing rule's id.
     pub closing: HostNumber,
+    // The starter's metadata id, where it is another.
     pub starter: HostNumber,
+    // The phase in which it came about.
     pub phase: u64,
+    // 1 where the connection is dropped, else 0.
     pub drop: u64,
+    // The starter's metadata.
     pub metadata: HostMetadata,
 }
 

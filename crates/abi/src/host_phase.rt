@@ -27,12 +27,18 @@ ghost use Rattle.transaction.specs.RunPhase.{answerWithout};
 ghost use Rattle.abi.specs.HostRecord.{fromHost, toHost, known};
 ghost use Rattle.abi.specs.HostCall.{lentWords, lentPart, unknownAnswer, sizesOf, HostRan};
 
+// A transaction as a host lends it.
 #[repr(C)]
 pub struct HostTransaction {
+    // What directives have set.
     pub controls: HostControls,
+    // 1 where the request is allowed, else 0.
     pub allowed: u64,
+    // What stops the request.
     pub intervention: HostIntervention,
+    // How many matched ids are in use.
     pub ids: u64,
+    // How many data entries are in use.
     pub entries: u64,
 }
 

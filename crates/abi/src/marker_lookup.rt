@@ -17,8 +17,11 @@ const MOST_RULES: u64 = limits::RULES as u64;
 // What the question answers: 0, or the number of a refusal; 1 and the position where there is a marker of the name, else twice 0.
 #[repr(C)]
 pub struct HostMarker {
+    // 0 or a refusal's number.
     pub answer: u64,
+    // 1 where there is a marker of the name, else 0.
     pub present: u64,
+    // The position of the latest such marker, else 0.
     pub position: u64,
 }
 

@@ -18,6 +18,7 @@ ghost use Rattle.abi.specs.HostValues.{numberOf, hostNumber, numberKnown
 // A number or none: `present` is 1 or 0.
 #[repr(C)]
 pub struct HostNumber {
+    // 1 where there is a number, else 0.
     pub present: u64,
     pub value: u64,
 }
@@ -25,8 +26,10 @@ pub struct HostNumber {
 // A place or none.
 #[repr(C)]
 pub struct HostPlace {
+    // 1 where there is a place, else 0.
     pub present: u64,
     pub phase: u64,
+    // In that phase's whole action list.
     pub position: u64,
 }
 

@@ -10,8 +10,11 @@ ghost use Rattle.host.specs.ReadRecord.{Recorded};
 // What the reader answers, the number of the directive's form, and its value.
 #[repr(C)]
 pub struct ReadRecord {
+    // 0 or a refusal's number.
     pub answer: u64,
+    // 0 unsupported, 1 ruleEngine, 2 ruleRemoveById, 3 ruleRemoveTargetById, 4 requestBodyAccess, 5 requestBodyProcessor.
     pub form: u64,
+    // The number of a mode, an access or a processor, how many ranges, or where a target is cut.
     pub value: u64,
 }
 

@@ -21,14 +21,18 @@ ghost use Rattle.host.specs.HostQueries.{hostAccess, hostProcessor};
 // The answer to a question: 0 and the number of a value, or the number of a refusal and 0.
 #[repr(C)]
 pub struct HostQueryAnswer {
+    // 0 or a refusal's number.
     pub answer: u64,
+    // The value, 0 after a refusal.
     pub value: u64,
 }
 
 // The same where the value is a target.
 #[repr(C)]
 pub struct HostTarget {
+    // 0 or a refusal's number.
     pub answer: u64,
+    // The target's place.
     pub target: HostPlace,
 }
 
@@ -139,7 +143,7 @@ pub extern "C" fn tivembo_is_rule_removed(c: HostControls, id: HostNumber) -> Ho
     HostQueryAnswer { answer: 0, value }
 }
 
-// 0 On, 1 Off.
+// Whether the request body is read: 0 On, 1 Off.
 #[no_mangle]
 pub extern "C" fn tivembo_request_body_access(c: HostControls) -> HostQueryAnswer
     ensures { λ r. ⌜ r ≡ hostAccess c ⌝ }
@@ -154,7 +158,7 @@ pub extern "C" fn tivembo_request_body_access(c: HostControls) -> HostQueryAnswe
     HostQueryAnswer { answer: 0, value }
 }
 
-// 0 where none is set, else one more than the processor's number.
+// The body processor: 0 where none is set, else one more than its number.
 #[no_mangle]
 pub extern "C" fn tivembo_request_body_processor(c: HostControls) -> HostQueryAnswer
     ensures { λ r. ⌜ r ≡ hostProcessor c ⌝ }

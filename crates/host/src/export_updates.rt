@@ -12,11 +12,13 @@ ghost use Rattle.host.specs.HostUpdates.{HostAdded};
 // The record after an addition, with its answer.
 #[repr(C)]
 pub struct HostChangeAnswer {
+    // 0 or a refusal's number.
     pub answer: u64,
+    // The controls after the addition, as given after a refusal.
     pub controls: HostControls,
 }
 
-// One range at the end. After 3 and an unknown number: 5 where the start is above the end, 8 where 256 are held.
+// Adds a range of removed ids at the end. After 3 and an unknown number: 5 where the start is above the end, 8 where 256 are held.
 #[no_mangle]
 pub extern "C" fn tivembo_remove_range(c: HostControls, start: u64, end: u64) -> HostChangeAnswer
     ensures { λ r. ⌜ HostAdded c r (addRangeAnswer (controlsIn c) (record { start = start; end = end }))
@@ -46,7 +48,7 @@ pub extern "C" fn tivembo_remove_range(c: HostControls, start: u64, end: u64) ->
     }
 }
 
-// One target at the end. After 3 and an unknown number: 9 where 64 are held.
+// Adds the place of a removed target at the end. After 3 and an unknown number: 9 where 64 are held.
 #[no_mangle]
 pub extern "C" fn tivembo_remove_target(
     c: HostControls,

@@ -84,7 +84,9 @@ pub enum CtlDirective {
 // A part of a lent text.
 #[repr(C)]
 pub struct Part {
+    // Its first byte.
     pub start: u64,
+    // How many bytes it has.
     pub len: u64,
 }
 
@@ -110,39 +112,54 @@ pub struct CallSettings {
 // A rule's record. `present` is 1 where the rule has an id and 0 where it has none, `link` is
 // `is_chain`, and its actions are the `count` from `first` on.
 pub struct Rule {
+    // 1 where it has an id, else 0.
     pub present: u64,
     pub id: u64,
+    // 1 where it is a link, else 0.
     pub link: u64,
+    // Its first action.
     pub first: u64,
+    // How many actions it has.
     pub count: u64,
 }
 
 // An action's record: its kind, its number, and two parts of the lent text.
 pub struct Action {
+    // 01's number of the kind.
     pub kind: u64,
+    // The number of a kind that has one.
     pub number: u64,
+    // The text of a kind that has one, and the directive of a ctl.
     pub text: Part,
+    // The value of a ctl.
     pub value: Part,
 }
 
 // A marker's record: its name, and the number of the phase's rules before it.
 #[repr(C)]
 pub struct Marker {
+    // Where its name stands.
     pub name: Part,
+    // The number of the phase's rules before it.
     pub position: u64,
 }
 
 // An entry of the list of matched data. `present` is 1 where it has an id.
 pub struct DataEntry {
+    // 1 where it has an id, else 0.
     pub present: u64,
+    // The id, or 0.
     pub id: u64,
     pub phase: u64,
+    // The index of the rule that matched with a variable.
     pub index: u64,
 }
 
 // An entry of the journal: a visited rule's index and the number of the verdict.
 pub struct JournalEntry {
+    // The rule's index.
     pub index: u64,
+    // 0 missed, 1 matched, 2 removed, 3 error.
     pub verdict: u64,
 }
 

@@ -20,8 +20,11 @@ pub struct Transaction {
 // the error, with 10; how many entries the journal holds; and what is told besides.
 #[repr(C)]
 pub struct Answer {
+    // 0, 10 or a refusal's number.
     pub answer: u64,
+    // With 10, the index of the rule in error, else 0.
     pub error: u64,
+    // How many entries the journal holds.
     pub visits: u64,
     pub report: Report,
 }
