@@ -29,7 +29,7 @@ mod line;
 mod print;
 mod read;
 mod result;
-mod text;
+pub mod text;
 mod words;
 
 pub use action::{Action, Kind, Operands};
@@ -40,5 +40,4 @@ pub use line::Reason;
 pub use print::Place;
 pub use read::{ReadError, Reader};
 pub use result::{Answer, CallResult, CaseResult, Intervention, Stop};
-pub use text::{on_off, or_dash, quoted};
 pub use words::{BodyProcessor, Mode, Outcome, Verdict};

@@ -2,7 +2,7 @@
 
 use std::fmt;
 
-use crate::text::{list, on_off, or_dash, quoted, range, yes_no};
+use crate::text::{data, list, on_off, or_dash, quoted, range, target, visit, yes_no};
 use crate::words::{BodyProcessor, Mode, Verdict};
 
 /// The results of a case's calls. It prints as the format has them, without an end after its last line.
@@ -149,10 +149,6 @@ impl CallResult {
     /// assert_eq!(result.lines()[..4], ["call 2", "answer 0", "visits 0:matched 1:removed", "ids"]);
     /// ```
     pub fn lines(&self) -> Vec<String> {
-        let visit = |(index, verdict): &(u64, Verdict)| format!("{index}:{verdict}");
-        let data = |(id, index): &(Option<u64>, u64)| format!("{}@{index}", or_dash(*id));
-        let target =
-            |(id, target): &(Vec<u8>, Vec<u8>)| format!("{};{}", quoted(id), quoted(target));
         vec![
             format!("call {}", self.phase),
             format!("answer {}", self.answer),

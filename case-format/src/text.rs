@@ -1,11 +1,13 @@
-//! How the format writes texts and values that may be absent.
+//! How the format writes texts and small values.
 
 use std::fmt::Display;
+
+use crate::words::Verdict;
 
 /// A TEXT: in double quotes, with `\"`, `\\` and `\xHH` as its only escapes, hexadecimal digits in capitals.
 ///
 /// ```
-/// assert_eq!(case_format::quoted(b"a\"b\\\n\x7F"), r#""a\"b\\\x0A\x7F""#);
+/// assert_eq!(case_format::text::quoted(b"a\"b\\\n\x7F"), r#""a\"b\\\x0A\x7F""#);
 /// ```
 pub fn quoted(text: &[u8]) -> String {
     let mut quoted = String::with_capacity(text.len() + 2);
@@ -36,7 +38,7 @@ pub fn on_off(on: bool) -> &'static str {
 }
 
 /// `yes` or `no`.
-pub(crate) fn yes_no(yes: bool) -> &'static str {
+pub fn yes_no(yes: bool) -> &'static str {
     if yes {
         "yes"
     } else {
@@ -45,8 +47,23 @@ pub(crate) fn yes_no(yes: bool) -> &'static str {
 }
 
 /// `START-END`.
-pub(crate) fn range((start, end): &(u64, u64)) -> String {
+pub fn range((start, end): &(u64, u64)) -> String {
     format!("{start}-{end}")
+}
+
+/// A visit: index and verdict.
+pub fn visit((index, verdict): &(u64, Verdict)) -> String {
+    format!("{index}:{verdict}")
+}
+
+/// A data entry: id or `-`, and rule index.
+pub fn data((id, index): &(Option<u64>, u64)) -> String {
+    format!("{}@{index}", or_dash(*id))
+}
+
+/// A target: rule id and target.
+pub fn target((id, target): &(Vec<u8>, Vec<u8>)) -> String {
+    format!("{};{}", quoted(id), quoted(target))
 }
 
 /// A line of a word and the entries after it; the word alone where there are none.
