@@ -19,6 +19,7 @@ pub use found::directive_answer;
 pub use run::{directive, run_case, Run};
 pub use timed::{Missed, Timed};
 
-/// What the published directive reader gives.
+/// What the published directive reader takes and gives.
 pub use published::engine::control::CtlDirective;
 pub use published::engine::ruleset::RuleEngineMode;
+pub use published::parser::ControlAction;

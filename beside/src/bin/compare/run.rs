@@ -15,8 +15,8 @@ use crate::sides::{directives, Sides};
 /// Calls of a block. Each has random numbers of its own, so that the result is the same with any number of threads.
 const BLOCK: u64 = 1_000;
 
-/// How many differences are kept to be shown.
-pub const SHOWN: usize = 3;
+/// How many differences are looked at for their causes. The first ones: a run with many takes no longer for it.
+const LOOKED_AT: usize = 60;
 
 /// What is run.
 #[derive(Clone, Copy)]
@@ -32,8 +32,8 @@ pub struct Report {
     pub table: Table,
     pub left_out: u64,
     pub differences: u64,
-    /// The first cases that differ, with their blocks.
-    pub shown: Vec<(u64, Case)>,
+    /// The first cases that differ, up to the call that does, with their blocks.
+    pub differing: Vec<(u64, Case)>,
 }
 
 impl Report {
@@ -41,10 +41,10 @@ impl Report {
         self.table.add(&other.table);
         self.left_out += other.left_out;
         self.differences += other.differences;
-        self.shown.extend(other.shown);
+        self.differing.extend(other.differing);
         // Blocks end in any order.
-        self.shown.sort_by_key(|(block, _)| *block);
-        self.shown.truncate(SHOWN);
+        self.differing.sort_by_key(|(block, _)| *block);
+        self.differing.truncate(LOOKED_AT);
     }
 }
 
@@ -100,10 +100,11 @@ fn run_case(options: Options, block: u64, case: &Case, left: &mut u64, report: &
         report.table.count(&seen.marks());
         if !ran.differing.is_empty() {
             report.differences += 1;
-            let mut case = case.clone();
-            case.calls.truncate(at + 1);
-            report.shown.push((block, case));
-            report.shown.truncate(SHOWN);
+            if report.differing.len() < LOOKED_AT {
+                let mut case = case.clone();
+                case.calls.truncate(at + 1);
+                report.differing.push((block, case));
+            }
             return;
         }
     }

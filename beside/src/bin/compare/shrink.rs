@@ -1,18 +1,21 @@
 //! Makes a case that differs as small as can be found, one edit at a time.
 
-use beside::case::{kind, mode, outcome, Call, Case};
+use beside::case::{kind, outcome, Call, Case};
+use case_format::{Entry, Mode, Stop};
+use oracle::Run;
 use tivembo::{Action, Part};
 
 /// The at-th smaller case of one kind, none after the last.
 type Edit = fn(&Case, usize) -> Option<Case>;
 
 /// Each makes less of something, so that no two undo each other.
-const EDITS: [Edit; 15] = [
-    unshared,
+const EDITS: [Edit; 18] = [
+    as_read,
     without_call,
     without_rules,
     without_rule,
     without_action,
+    without_kind,
     without_marker,
     without_range,
     without_entry,
@@ -23,6 +26,8 @@ const EDITS: [Edit; 15] = [
     without_text,
     without_length,
     without_blanks,
+    without_disorder,
+    without_start,
 ];
 
 /// A case as small as edits make it that still differs.
@@ -69,35 +74,10 @@ fn places<T>(list: &[T], has: impl Fn(&T) -> bool) -> std::vec::IntoIter<usize> 
     places.into_iter()
 }
 
-/// Whether each rule has actions of its own, and none is left over.
-pub fn is_plain(call: &Call) -> bool {
-    let mut next = 0;
-    let mut rules = 0..call.rules.len();
-    let in_order = rules.all(|index| {
-        let places = call.places_of(index);
-        let is_next = places.start == next;
-        next = places.end;
-        is_next
-    });
-    in_order && next == call.actions.len()
-}
-
-/// Every rule with actions of its own. Parts of the text stay as they are.
-fn unshared(case: &Case, at: usize) -> Option<Case> {
-    edited(
-        case,
-        at,
-        |call| (!is_plain(call)).then_some(0).into_iter(),
-        |call, _| {
-            let mut actions = Vec::new();
-            for index in 0..call.rules.len() {
-                let first = actions.len() as u64;
-                actions.extend_from_slice(call.actions_of(index));
-                call.rules[index].first = first;
-            }
-            call.actions = actions;
-        },
-    )
+/// With the records of a call as they are read from what is written of it.
+fn as_read(case: &Case, at: usize) -> Option<Case> {
+    let things = |call: &Call| (call.as_read() != *call).then_some(0).into_iter();
+    edited(case, at, things, |call, _| *call = call.as_read())
 }
 
 fn without_call(case: &Case, at: usize) -> Option<Case> {
@@ -147,6 +127,30 @@ fn without_action(case: &Case, at: usize) -> Option<Case> {
     })
 }
 
+/// The kinds that an action is tried as: what stops is tried as pass and deny, metadata as msg. So differences of one cause
+/// come to the same case more often.
+fn plainer(action: &Action) -> &'static [u64] {
+    match action.kind {
+        kind::DENY => &[kind::PASS],
+        kind::BLOCK | kind::ALLOW | kind::REDIRECT | kind::DROP => &[kind::PASS, kind::DENY],
+        kind::ID | kind::LOGDATA..=kind::ACCURACY => &[kind::MSG],
+        _ => &[],
+    }
+}
+
+fn without_kind(case: &Case, at: usize) -> Option<Case> {
+    // Each action once for each of the two kinds that it can at most be tried as.
+    let things = |call: &Call| {
+        let tried = |at: &usize| at % 2 < plainer(&call.actions[at / 2]).len();
+        let tried: Vec<usize> = (0..2 * call.actions.len()).filter(tried).collect();
+        tried.into_iter()
+    };
+    edited(case, at, things, |call, at| {
+        let action = &mut call.actions[at / 2];
+        action.kind = plainer(action)[at % 2];
+    })
+}
+
 fn without_marker(case: &Case, at: usize) -> Option<Case> {
     let things = |call: &Call| 0..call.markers.len();
     edited(case, at, things, |call, marker| {
@@ -165,16 +169,16 @@ fn without_entry(case: &Case, at: usize) -> Option<Case> {
     let mut smaller = case.clone();
     let (entry, is_set) = (&mut smaller.entry, &case.entry);
     let mut edits = Vec::new();
-    for (number, set) in [(0, is_set.mode), (1, is_set.access), (2, is_set.processor)] {
-        edits.extend((set > 0).then_some(number));
-    }
+    edits.extend(is_set.mode.map(|_| 0));
+    edits.extend(is_set.body_access.map(|_| 1));
+    edits.extend(is_set.body_processor.map(|_| 2));
     edits.extend(is_set.allowed.then_some(3));
     edits.extend(is_set.stopped.then_some(4));
     edits.extend((case.status != 403).then_some(5));
     match edits.get(at)? {
-        0 => entry.mode = 0,
-        1 => entry.access = 0,
-        2 => entry.processor = 0,
+        0 => entry.mode = None,
+        1 => entry.body_access = None,
+        2 => entry.body_processor = None,
         3 => entry.allowed = false,
         4 => entry.stopped = false,
         _ => smaller.status = 403,
@@ -182,11 +186,13 @@ fn without_entry(case: &Case, at: usize) -> Option<Case> {
     Some(smaller)
 }
 
-/// With the rule set's mode On, and nothing set.
+/// With nothing set, and the rule set's mode On or what was set.
 fn without_mode(case: &Case, at: usize) -> Option<Case> {
+    let on = (case.mode != Mode::On).then_some(Mode::On);
+    let mode = on.into_iter().chain(case.entry.mode).nth(at)?;
     let mut smaller = case.clone();
-    (smaller.mode, smaller.entry.mode) = (mode::ON, 0);
-    (at == 0 && case.mode != mode::ON).then_some(smaller)
+    (smaller.mode, smaller.entry.mode) = (mode, None);
+    Some(smaller)
 }
 
 fn without_link(case: &Case, at: usize) -> Option<Case> {
@@ -248,4 +254,35 @@ fn without_blanks(case: &Case, at: usize) -> Option<Case> {
     edited(case, at, things, |call, action| {
         call.actions[action].text = trimmed_name(call, &call.actions[action]);
     })
+}
+
+/// With two neighbours among a rule's actions in the order of their kinds.
+fn without_disorder(case: &Case, at: usize) -> Option<Case> {
+    let things = |call: &Call| {
+        let pairs = |index| call.places_of(index).skip(1).map(|later| later - 1);
+        let is_wrong = |at: &usize| call.actions[*at].kind > call.actions[at + 1].kind;
+        let pairs = (0..call.rules.len()).flat_map(pairs).filter(is_wrong);
+        pairs.collect::<Vec<_>>().into_iter()
+    };
+    edited(case, at, things, |call, at| call.actions.swap(at, at + 1))
+}
+
+/// Without the first rules of the first call, what they leave held before it.
+fn without_start(case: &Case, at: usize) -> Option<Case> {
+    let (count, mut smaller) = (at + 1, case.clone());
+    let mut start = case.calls.first()?.clone();
+    let rest = start.rules.len().checked_sub(count)?;
+    remove_rules(&mut start, count, rest);
+    let mut run = Run::new(case.mode, case.status.into(), &case.entry);
+    let left = run.call(&start.written());
+    smaller.entry = Entry {
+        mode: left.mode,
+        body_access: left.body_access,
+        body_processor: left.body_processor,
+        ranges: left.ranges,
+        allowed: left.allowed,
+        stopped: left.intervention != Stop::No,
+    };
+    remove_rules(&mut smaller.calls[0], 0, count);
+    Some(smaller)
 }
