@@ -48,3 +48,36 @@ fn bare(action: &Action) -> Action {
     };
     Action::of(action.kind(), 0, &directive, b"")
 }
+
+#[cfg(test)]
+mod tests {
+    use super::*;
+    use beside::case::{outcome, Call};
+    use tivembo::{Act, RuleSet};
+
+    fn cause(id: u64, act: Act<'_>, differing: &str) -> Cause {
+        let mut rules = RuleSet::builder();
+        rules.rule(Some(id), false, &[act]);
+        let call = Call::of_rules(id % 5, &rules.build_as_given(), vec![outcome::MATCHED]);
+        let case = Case {
+            calls: vec![call],
+            ..Case::default()
+        };
+        Cause::of(&case, &[differing.to_string()])
+    }
+
+    #[test]
+    fn numbers_and_texts_are_no_part_of_it() {
+        let one = cause(1, Act::Msg(b"a"), "ids");
+        assert_eq!(one, cause(2, Act::Msg(b"b"), "ids"));
+        assert_ne!(one, cause(1, Act::Msg(b"a"), "data"));
+        assert_ne!(one, cause(1, Act::Rev(b"a"), "ids"));
+    }
+
+    #[test]
+    fn a_directive_is() {
+        let one = cause(1, Act::Ctl(b"ruleEngine", b"On"), "mode");
+        assert_eq!(one, cause(1, Act::Ctl(b" RULEENGINE", b"Off"), "mode"));
+        assert_ne!(one, cause(1, Act::Ctl(b"ruleRemoveById", b"On"), "mode"));
+    }
+}

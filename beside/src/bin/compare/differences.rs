@@ -14,6 +14,11 @@ use crate::sides::{directives, Ran, Sides};
 /// How many causes are shown.
 const SHOWN: usize = 5;
 
+const UNWRITTEN: &str =
+    "# It differs as lent, with actions or texts that rules share. As written and read it does not differ.";
+const GAVE: &str =
+    "# What the calls gave. A line is marked with its side where not all sides have it:";
+
 /// The differences of one cause.
 struct Difference {
     cause: Cause,
@@ -37,7 +42,7 @@ pub fn print<'a>(cases: impl Iterator<Item = &'a Case>, planted: Option<Reading>
     found.sort_by_key(|difference| Reverse(difference.count));
     let all: usize = found.iter().map(|difference| difference.count).sum();
     for (number, difference) in (1..).zip(found.iter().take(SHOWN)) {
-        difference.print(number, all, planted.is_some());
+        println!("{}", difference.text(number, all, planted.is_some()));
     }
     let rest = found.get(SHOWN..).unwrap_or_default();
     if !rest.is_empty() {
@@ -94,31 +99,28 @@ impl Difference {
         }
     }
 
-    fn print(&self, number: usize, all: usize, is_planted: bool) {
+    /// The difference as a text of the case format. Of `all` cases that were looked at, so many had its cause.
+    fn text(&self, number: usize, all: usize, is_planted: bool) -> String {
         let last = self.ran.last().expect("the last call differs");
-        let differing = last.differing.join(", ");
-        println!("# difference {number}: {differing}");
-        println!(
-            "# {} of the first {all} differences have this cause",
-            self.count
-        );
+        let mut lines = vec![
+            format!("# difference {number}: {}", last.differing.join(", ")),
+            format!(
+                "# {} of the first {all} differences have this cause",
+                self.count
+            ),
+        ];
         if self.case.calls.iter().any(|call| call.as_read() != *call) {
-            println!("# It differs as lent, with actions or texts that rules share. Read from here it does not differ.");
+            lines.push(UNWRITTEN.to_string());
         }
-        println!("{}", case(&self.case, &format!("difference-{number}")));
-        println!(
-            "# What the calls gave. A line is marked with its side where the sides differ in it:"
-        );
-        for ran in &self.ran {
-            lines(ran, is_planted)
-                .iter()
-                .for_each(|line| println!("{line}"));
-        }
+        lines.push(case(&self.case, &format!("difference-{number}")));
+        lines.push(GAVE.to_string());
+        lines.extend(self.ran.iter().flat_map(|ran| gave(ran, is_planted)));
+        lines.join("\n")
     }
 }
 
 /// What a call gave, as comments.
-fn lines(ran: &Ran, is_planted: bool) -> Vec<String> {
+fn gave(ran: &Ran, is_planted: bool) -> Vec<String> {
     let other = if is_planted { "planted" } else { "ours" };
     let mut sides = vec![("rust", &ran.rust), (other, &ran.other)];
     sides.extend(ran.model.iter().map(|model| ("model", model)));
@@ -148,4 +150,109 @@ fn agree(ran: &Ran, word: &str) -> bool {
     let journals = others.windows(2).all(|two| two[0].visits == two[1].visits);
     let same = |other: &&CallResult| !differing(&ran.rust, other).contains(&word);
     others.iter().all(same) && (word != "visits" || journals)
+}
+
+#[cfg(test)]
+mod tests {
+    use super::*;
+    use beside::case::{outcome, Call};
+    use case_format::{Item, Reader, Verdict};
+    use tivembo::{Action, Rule};
+
+    /// What three sides gave, changed in some of them.
+    fn ran(change: impl Fn(&mut CallResult, &mut CallResult, &mut CallResult)) -> Ran {
+        let side = || CallResult::empty(2);
+        let (mut rust, mut other, mut model) = (side(), side(), side());
+        change(&mut rust, &mut other, &mut model);
+        Ran {
+            before: Default::default(),
+            rust,
+            other,
+            model: Some(model),
+            differing: vec!["ids".to_string()],
+        }
+    }
+
+    /// The lines with a mark.
+    fn marks(ran: &Ran) -> Vec<String> {
+        let lines = gave(ran, false).into_iter();
+        lines.filter(|line| !line.starts_with("#  ")).collect()
+    }
+
+    #[test]
+    fn only_lines_that_differ_are_marked() {
+        assert!(marks(&ran(|_, _, _| ())).is_empty());
+        assert_eq!(gave(&ran(|_, _, _| ()), false)[0], "#         call 2");
+        let other = ran(|_, other, _| other.ids.push(7));
+        let lines = ["# rust    ids", "# ours    ids 7", "# model   ids"];
+        assert_eq!(marks(&other), lines);
+        let model = ran(|_, _, model| model.allowed = true);
+        let lines = [
+            "# rust    allowed no",
+            "# ours    allowed no",
+            "# model   allowed yes",
+        ];
+        assert_eq!(marks(&model), lines);
+    }
+
+    /// The Rust has no removed visits, but the other sides must have the same.
+    #[test]
+    fn removed_visits() {
+        let removed = (0, Verdict::Removed);
+        let both = ran(|_, other, model| {
+            other.visits.push(removed);
+            model.visits.push(removed);
+        });
+        assert!(marks(&both).is_empty());
+        let one = ran(|_, other, _| other.visits.push(removed));
+        let lines = [
+            "# rust    visits",
+            "# ours    visits 0:removed",
+            "# model   visits",
+        ];
+        assert_eq!(marks(&one), lines);
+    }
+
+    /// Two rules of which both have the only action, or each has one.
+    fn two_rules(actions: usize) -> Case {
+        let rule = |first| Rule {
+            first,
+            count: 1,
+            ..Rule::default()
+        };
+        let call = Call {
+            phase: 2,
+            rules: vec![rule(0), rule(actions as u64 - 1)],
+            outcomes: vec![outcome::MATCHED; 2],
+            actions: vec![Action::default(); actions],
+            ..Call::default()
+        };
+        Case {
+            calls: vec![call],
+            ..Case::default()
+        }
+    }
+
+    #[test]
+    fn what_can_not_be_written_is_said() {
+        let text = |case: Case| {
+            let difference = Difference {
+                cause: Cause::of(&case, &[]),
+                case,
+                ran: vec![ran(|_, other, _| other.ids.push(7))],
+                count: 3,
+            };
+            difference.text(1, 60, false)
+        };
+        let (shared, own) = (text(two_rules(1)), text(two_rules(2)));
+        assert!(shared.contains(UNWRITTEN) && !own.contains(UNWRITTEN));
+        assert!(shared.contains("rule - matched\n  # 0..1\n  other\n"));
+        assert!(own.starts_with("# difference 1: ids\n# 3 of the first 60 differences"));
+        for text in [shared, own] {
+            let mut reader = Reader::new(text.as_bytes());
+            let item = Item::Case(two_rules(2).written("difference-1"));
+            assert_eq!(reader.item(), Ok(Some(item)));
+            assert_eq!(reader.item(), Ok(None));
+        }
+    }
 }

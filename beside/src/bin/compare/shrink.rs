@@ -286,3 +286,73 @@ fn without_start(case: &Case, at: usize) -> Option<Case> {
     remove_rules(&mut smaller.calls[0], 0, count);
     Some(smaller)
 }
+
+#[cfg(test)]
+mod tests {
+    use super::*;
+    use tivembo::{Act, RuleSet};
+
+    fn case(rules: &[&[Act<'_>]]) -> Case {
+        let mut set = RuleSet::builder();
+        for (id, actions) in (1..).zip(rules) {
+            set.rule(Some(id), false, actions);
+        }
+        let outcomes = vec![outcome::MATCHED_VARIABLE; rules.len()];
+        Case {
+            calls: vec![Call::of_rules(1, &set.build_as_given(), outcomes)],
+            ..Case::default()
+        }
+    }
+
+    fn shrunk_text(case: Case, differs: impl Fn(&Case) -> bool) -> String {
+        let text = shrunk(case, differs).written("s").to_string();
+        text.lines().skip(3).collect::<Vec<_>>().join("; ")
+    }
+
+    /// Whether the first rule has an action of this kind among so many.
+    fn has(case: &Case, kind: u64, count: usize) -> bool {
+        let call = case.calls.first();
+        let call = call.filter(|call| !call.rules.is_empty());
+        call.is_some_and(|call| {
+            let actions = call.actions_of(0);
+            actions.len() == count && actions.iter().any(|action| action.kind == kind)
+        })
+    }
+
+    #[test]
+    fn what_has_no_part_in_it_goes() {
+        let large = case(&[&[Act::Status(5)], &[Act::Rev(b"x"), Act::Id(7)]]);
+        let small = shrunk_text(large, |case| has(case, kind::STATUS, 1));
+        assert_eq!(small, "call 1; rule - matched;   status 5; end");
+    }
+
+    #[test]
+    fn actions_become_plainer_and_stand_in_order() {
+        let ctl = Act::Ctl(b" ruleEngine", b"On");
+        let large = case(&[&[ctl, Act::Drop, Act::Rev(b"x")]]);
+        let small = shrunk_text(large, |case| has(case, kind::CTL, 3));
+        let rule = "call 1; rule - matched;   pass;   msg \"\"";
+        assert_eq!(small, format!("{rule};   ctl \"ruleEngine\" \"\"; end"));
+    }
+
+    /// A rule that only removes another is held as the range that it adds.
+    #[test]
+    fn what_a_start_leaves_is_held() {
+        let large = case(&[
+            &[Act::Ctl(b"ruleRemoveById", b"2")],
+            &[Act::Deny],
+            &[Act::Pass],
+        ]);
+        let removes_2 = |case: &Case| {
+            let ran = oracle::run_case(&case.written("s"));
+            let has_2 = case
+                .calls
+                .iter()
+                .any(|call| call.rules.iter().any(|rule| rule.id == 2));
+            has_2 && ran.calls.iter().all(|call| !call.ids.contains(&2))
+        };
+        let small = shrunk(large, removes_2);
+        assert_eq!(small.entry.ranges, [(2, 2)]);
+        assert_eq!(small.calls[0].rules.len(), 1);
+    }
+}
