@@ -97,60 +97,74 @@ impl Ours {
         self.journal.resize(room(0, 2), PATTERN);
     }
 
-    /// What no call may do: write where it has nothing to write, take back what was there, or change a record idly.
+    /// What no call may do: write where it has nothing to write, take back what was there, change a record idly, or write a
+    /// number that stands for nothing.
     fn faults(
         &self,
         before: &HostTransaction,
         lists: &(Vec<u64>, Vec<u64>),
         visits: usize,
     ) -> Vec<&'static str> {
+        let mut visited = self.visits(visits);
+        let right = [
+            (
+                "record of a call without visits",
+                visits > 0 || *self.held == *before,
+            ),
+            (
+                "a verdict without a name",
+                visited.all(|entry| read::visit(entry).is_some()),
+            ),
+            (
+                "a control without a name",
+                read::settings(&self.held.controls).is_some(),
+            ),
+        ];
+        let lists = self.kept_lists(before, lists, visits);
+        let all = lists
+            .into_iter()
+            .chain(self.kept_record(before))
+            .chain(right);
+        all.filter(|(_, right)| !right)
+            .map(|(name, _)| name)
+            .collect()
+    }
+
+    /// Whether each list is as it was besides what the call added.
+    fn kept_lists(
+        &self,
+        before: &HostTransaction,
+        (ids, entries): &(Vec<u64>, Vec<u64>),
+        visits: usize,
+    ) -> [(&'static str, bool); 3] {
         let kept = |now: &[u64], was: &[u64], from: u64, to: u64, words: usize| {
             let (from, to) = (from as usize * words, to as usize * words);
             from <= to && to <= now.len() && now[..from] == was[..from] && now[to..] == was[to..]
         };
         let now = &self.held;
-        let targets = before.controls.targets as usize;
-        let places = |held: &HostTransaction| (held.controls.phases, held.controls.positions);
-        let ((phases, positions), (old_phases, old_positions)) = (places(now), places(before));
-        let journal = self.journal.get(2 * visits..);
-        let right = [
-            (
-                "ids list besides the new ids",
-                kept(&self.ids, &lists.0, before.ids, now.ids, 1),
-            ),
-            (
-                "data list besides the new entries",
-                kept(&self.entries, &lists.1, before.entries, now.entries, 4),
-            ),
-            (
-                "journal after the visits",
-                journal.is_some_and(|rest| rest.iter().all(|word| *word == PATTERN)),
-            ),
-            (
-                "record of a call without visits",
-                visits > 0 || **now == *before,
-            ),
-            (
-                "targets held before",
-                phases[..targets] == old_phases[..targets]
-                    && positions[..targets] == old_positions[..targets],
-            ),
-            (
-                "intervention held before",
-                before.intervention.present == 0 || now.intervention == before.intervention,
-            ),
-            (
-                "a verdict without a name",
-                self.visits(visits)
-                    .all(|entry| read::visit(entry).is_some()),
-            ),
-            (
-                "a control without a name",
-                read::settings(&now.controls).is_some(),
-            ),
-        ];
-        let wrong = right.iter().filter(|(_, right)| !right);
-        wrong.map(|(name, _)| *name).collect()
+        let ids = kept(&self.ids, ids, before.ids, now.ids, 1);
+        let entries = kept(&self.entries, entries, before.entries, now.entries, 4);
+        let rest = self.journal.get(2 * visits..);
+        let journal = rest.is_some_and(|rest| rest.iter().all(|word| *word == PATTERN));
+        [
+            ("ids list besides the new ids", ids),
+            ("data list besides the new entries", entries),
+            ("journal after the visits", journal),
+        ]
+    }
+
+    /// Whether what was held before a call still is.
+    fn kept_record(&self, before: &HostTransaction) -> [(&'static str, bool); 2] {
+        let (now, was) = (&self.held.controls, &before.controls);
+        let used = ..was.targets as usize;
+        let targets =
+            now.phases[used] == was.phases[used] && now.positions[used] == was.positions[used];
+        let intervention =
+            before.intervention.present == 0 || self.held.intervention == before.intervention;
+        [
+            ("targets held before", targets),
+            ("intervention held before", intervention),
+        ]
     }
 
     /// What stands in transaction and lists after a call.

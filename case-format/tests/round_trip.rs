@@ -58,14 +58,12 @@ fn recorded_cases_line_by_line() {
     assert!(again == stored, "a recorded case is printed in another way");
 }
 
-/// One rule with an action of each kind, and all that a case can say besides.
+/// All that a case can say.
 fn whole() -> Case {
-    let action = |kind: &Kind| Action::of(*kind, 7, b"a \"b\"\\\x00\xFF", b";");
-    let rule = |id, link, outcome, actions| Rule {
-        id,
-        link,
-        outcome,
-        actions,
+    let second = Call {
+        phase: u64::MAX,
+        rules: Vec::new(),
+        markers: Vec::new(),
     };
     Case {
         name: "A-1.b".to_string(),
@@ -79,35 +77,33 @@ fn whole() -> Case {
             allowed: true,
             stopped: true,
         },
-        calls: vec![
-            Call {
-                phase: 0,
-                rules: vec![
-                    rule(Some(0), true, Outcome::MatchedVariable, Vec::new()),
-                    rule(
-                        None,
-                        false,
-                        Outcome::Error,
-                        Kind::ALL.iter().map(action).collect(),
-                    ),
-                ],
-                markers: vec![
-                    Marker {
-                        name: b"\n".to_vec(),
-                        position: 9,
-                    },
-                    Marker {
-                        name: Vec::new(),
-                        position: 0,
-                    },
-                ],
-            },
-            Call {
-                phase: u64::MAX,
-                rules: Vec::new(),
-                markers: Vec::new(),
-            },
-        ],
+        calls: vec![whole_call(), second],
+    }
+}
+
+/// A rule without actions, one with an action of each kind, and two markers.
+fn whole_call() -> Call {
+    let action = |kind: &Kind| Action::of(*kind, 7, b"a \"b\"\\\x00\xFF", b";");
+    let marker = |name: &[u8], position| Marker {
+        name: name.to_vec(),
+        position,
+    };
+    let link = Rule {
+        id: Some(0),
+        link: true,
+        outcome: Outcome::MatchedVariable,
+        actions: Vec::new(),
+    };
+    let closing = Rule {
+        id: None,
+        link: false,
+        outcome: Outcome::Error,
+        actions: Kind::ALL.iter().map(action).collect(),
+    };
+    Call {
+        phase: 0,
+        rules: vec![link, closing],
+        markers: vec![marker(b"\n", 9), marker(b"", 0)],
     }
 }
 

@@ -4,7 +4,8 @@ use std::io::{Result, Write};
 
 use case_format::text::{data, on_off, quoted, range, target};
 use case_format::{
-    Action, Answer, CallResult, Directive, Entry, Intervention, Kind, Operands, Rule, Stop,
+    Action, Answer, BodyProcessor, CallResult, Directive, Entry, Intervention, Kind, Mode,
+    Operands, Rule, Stop,
 };
 use tivembo::{Phase, Refusal};
 
@@ -88,16 +89,25 @@ fn print_head(out: &mut impl Write, walked: &Walked) -> Result<()> {
 
 /// What the transaction holds before a case's first call.
 fn entry(entry: &Entry) -> Vec<String> {
-    let mode = entry.mode.map(|mode| format!("mode {mode}"));
-    let access = entry.body_access.map(on_off);
-    let access = access.map(|access| format!("body access {access}"));
-    let processor = entry.body_processor;
-    let processor = processor.map(|name| format!("body processor {name}"));
+    let settings = settings(entry.mode, entry.body_access, entry.body_processor);
     let ranges = (!entry.ranges.is_empty()).then(|| ranges(&entry.ranges));
     let allowed = entry.allowed.then(|| "allowed".to_string());
     let stopped = entry.stopped.then(|| "stopped".to_string());
-    let all = [mode, access, processor, ranges, allowed, stopped];
-    all.into_iter().flatten().collect()
+    let rest = [ranges, allowed, stopped];
+    settings.into_iter().chain(rest).flatten().collect()
+}
+
+/// What controls have set, each in words.
+fn settings(
+    mode: Option<Mode>,
+    access: Option<bool>,
+    processor: Option<BodyProcessor>,
+) -> [Option<String>; 3] {
+    [
+        mode.map(|mode| format!("mode {mode}")),
+        access.map(|on| format!("body access {}", on_off(on))),
+        processor.map(|name| format!("body processor {name}")),
+    ]
 }
 
 fn print_rules(out: &mut impl Write, walked: &Walked, phase: &Phase) -> Result<()> {
@@ -158,14 +168,10 @@ fn print_field(out: &mut impl Write, name: &str, value: &str) -> Result<()> {
 
 /// The controls after the call.
 fn controls(walked: &Walked, found: &CallResult) -> String {
-    let mode = found.mode.map(|mode| format!("mode {mode}"));
-    let access = found.body_access.map(on_off);
-    let access = access.map(|access| format!("body access {access}"));
-    let processor = found.body_processor;
-    let processor = processor.map(|name| format!("body processor {name}"));
+    let settings = settings(found.mode, found.body_access, found.body_processor);
     let ranges = (!found.ranges.is_empty()).then(|| ranges(&found.ranges));
-    let parts = [mode, access, processor, ranges, targets(walked, found)];
-    or_dash(parts.into_iter().flatten().collect(), "; ")
+    let rest = [ranges, targets(walked, found)];
+    or_dash(settings.into_iter().chain(rest).flatten().collect(), "; ")
 }
 
 /// The targets that the call added, and how many were held before.

@@ -48,7 +48,7 @@ pub fn print<'a>(cases: impl Iterator<Item = &'a Case>, planted: Option<Reading>
     if !rest.is_empty() {
         let cases: usize = rest.iter().map(|difference| difference.count).sum();
         println!(
-            "# not shown: {cases} of the first {all} differences, of {} more causes",
+            "# not shown: {cases} of the {all} differences looked at, of {} more causes",
             rest.len()
         );
     }
@@ -105,7 +105,7 @@ impl Difference {
         let mut lines = vec![
             format!("# difference {number}: {}", last.differing.join(", ")),
             format!(
-                "# {} of the first {all} differences have this cause",
+                "# {} of the {all} differences looked at have this cause",
                 self.count
             ),
         ];
@@ -247,7 +247,7 @@ mod tests {
         let (shared, own) = (text(two_rules(1)), text(two_rules(2)));
         assert!(shared.contains(UNWRITTEN) && !own.contains(UNWRITTEN));
         assert!(shared.contains("rule - matched\n  # 0..1\n  other\n"));
-        assert!(own.starts_with("# difference 1: ids\n# 3 of the first 60 differences"));
+        assert!(own.starts_with("# difference 1: ids\n# 3 of the 60 differences looked at"));
         for text in [shared, own] {
             let mut reader = Reader::new(text.as_bytes());
             let item = Item::Case(two_rules(2).written("difference-1"));

@@ -104,7 +104,7 @@ fn record(count: u64, seed: u64) -> ExitCode {
 
 /// Prints what came of a run, and says whether a line of the table is missing that should be there.
 fn print(options: Options, report: &Report) -> bool {
-    let cases = report.differing.iter().map(|(_, case)| case);
+    let cases = report.found.iter().map(|found| &found.case);
     differences::print(cases, options.planted);
     if let Some(reading) = options.planted {
         let planted = READINGS.iter().find(|(_, known, _)| *known == reading);

@@ -1,6 +1,7 @@
 //! Makes a case that differs as small as can be found, one edit at a time.
 
 use beside::case::{kind, outcome, Call, Case};
+use beside::model::trimmed;
 use case_format::{Entry, Mode, Stop};
 use oracle::Run;
 use tivembo::{Action, Part};
@@ -9,7 +10,7 @@ use tivembo::{Action, Part};
 type Edit = fn(&Case, usize) -> Option<Case>;
 
 /// Each makes less of something, so that no two undo each other.
-const EDITS: [Edit; 18] = [
+const EDITS: [Edit; 19] = [
     as_read,
     without_call,
     without_rules,
@@ -21,6 +22,7 @@ const EDITS: [Edit; 18] = [
     without_entry,
     without_mode,
     without_link,
+    without_member,
     without_id,
     without_outcome,
     without_text,
@@ -200,6 +202,24 @@ fn without_link(case: &Case, at: usize) -> Option<Case> {
     edited(case, at, things, |call, rule| call.rules[rule].link = 0)
 }
 
+/// With a link and the rule after it as one rule, which has the actions of both.
+fn without_member(case: &Case, at: usize) -> Option<Case> {
+    let things = |call: &Call| {
+        let is_joined = |later: &usize| {
+            let (link, next) = (call.places_of(later - 1), call.places_of(*later));
+            call.is_link(later - 1) && link.end == next.start
+        };
+        let later = (1..call.rules.len()).filter(is_joined);
+        later.collect::<Vec<_>>().into_iter()
+    };
+    edited(case, at, things, |call, later| {
+        let next = call.rules[later];
+        let link = &mut call.rules[later - 1];
+        (link.count, link.link) = (link.count + next.count, next.link);
+        remove_rules(call, later, 1);
+    })
+}
+
 fn without_id(case: &Case, at: usize) -> Option<Case> {
     let things = |call: &Call| places(&call.rules, |rule| rule.present == 1);
     edited(case, at, things, |call, rule| {
@@ -239,10 +259,11 @@ fn without_length(case: &Case, at: usize) -> Option<Case> {
 fn without_blanks(case: &Case, at: usize) -> Option<Case> {
     let trimmed_name = |call: &Call, action: &Action| {
         let name = call.text(action.text);
-        let start = name.len() - name.trim_ascii_start().len();
+        let is_blank = |byte: &&u8| trimmed(&[**byte]).is_empty();
+        let start = name.iter().take_while(is_blank).count();
         Part {
             start: action.text.start + start as u64,
-            len: name.trim_ascii().len() as u64,
+            len: trimmed(name).len() as u64,
         }
     };
     let things = |call: &Call| {
@@ -333,6 +354,20 @@ mod tests {
         let small = shrunk_text(large, |case| has(case, kind::CTL, 3));
         let rule = "call 1; rule - matched;   pass;   msg \"\"";
         assert_eq!(small, format!("{rule};   ctl \"ruleEngine\" \"\"; end"));
+    }
+
+    #[test]
+    fn a_link_is_joined_with_its_closing_rule() {
+        let mut large = case(&[&[Act::Status(1)], &[Act::Status(2)]]);
+        large.calls[0].rules[0].link = 1;
+        let small = shrunk_text(large, |case| has(case, kind::STATUS, 2) || is_chain(case));
+        let rule = "call 1; rule - matched;   status 1";
+        assert_eq!(small, format!("{rule};   status 2; end"));
+    }
+
+    fn is_chain(case: &Case) -> bool {
+        let call = case.calls.first();
+        call.is_some_and(|call| call.rules.len() == 2 && call.is_link(0) && call.actions.len() == 2)
     }
 
     /// A rule that only removes another is held as the range that it adds.
