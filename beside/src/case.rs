@@ -50,6 +50,14 @@ impl Case {
             calls: self.calls.iter().map(Call::written).collect(),
         }
     }
+
+    /// With the records that `./walk` lends when it reads what is written.
+    pub fn as_read(&self) -> Self {
+        Self {
+            calls: self.calls.iter().map(Call::as_read).collect(),
+            ..self.clone()
+        }
+    }
 }
 
 impl Call {
@@ -95,8 +103,7 @@ impl Call {
         }
     }
 
-    /// The records that `./walk` lends when it reads what is written.
-    pub fn as_read(&self) -> Self {
+    fn as_read(&self) -> Self {
         let mut rules = RuleSet::builder();
         for index in 0..self.rules.len() {
             let actions = self.actions_of(index).iter();
@@ -232,10 +239,9 @@ mod tests {
 
     #[test]
     fn what_is_read_is_plain_and_stays() {
-        let call = &odd().calls[0];
-        let read = call.as_read();
-        assert!(!call.is_plain() && read.is_plain());
-        assert_eq!(read.written(), call.written());
+        let (odd, read) = (odd(), odd().as_read());
+        assert!(!odd.calls[0].is_plain() && read.calls[0].is_plain());
+        assert_eq!(read.written("odd"), odd.written("odd"));
         assert_eq!(read.as_read(), read);
     }
 }

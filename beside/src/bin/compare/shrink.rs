@@ -76,10 +76,10 @@ fn places<T>(list: &[T], has: impl Fn(&T) -> bool) -> std::vec::IntoIter<usize> 
     places.into_iter()
 }
 
-/// With the records of a call as they are read from what is written of it.
+/// With the records that are read from what is written of the case.
 fn as_read(case: &Case, at: usize) -> Option<Case> {
-    let things = |call: &Call| (call.as_read() != *call).then_some(0).into_iter();
-    edited(case, at, things, |call, _| *call = call.as_read())
+    let read = case.as_read();
+    (at == 0 && read != *case).then_some(read)
 }
 
 fn without_call(case: &Case, at: usize) -> Option<Case> {
