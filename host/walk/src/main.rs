@@ -14,7 +14,7 @@ use std::fs::File;
 use std::io::{stdin, stdout, BufRead, BufReader, BufWriter, ErrorKind, Write};
 use std::process::ExitCode;
 
-use case_format::{Case, Directive, Item, Reader};
+use case_format::{Case, CaseResult, Directive, Item, Reader};
 use tivembo::read_directive;
 
 /// After so many cases, and before the next one, a line of progress is printed.
@@ -119,9 +119,12 @@ fn print_directive(
 
 fn print_case(out: &mut impl Write, case: &Case, results: bool) -> Result<(), Ended> {
     if results {
-        writeln!(out, "case {}", case.name)?;
-        run::run_case(case, |walked| writeln!(out, "{}", results::result(walked)))?;
-        writeln!(out, "end")?;
+        let (name, mut calls) = (case.name.clone(), Vec::new());
+        run::run_case(case, |walked| {
+            calls.push(results::result(walked));
+            Ok::<(), Ended>(())
+        })?;
+        writeln!(out, "{}", CaseResult { name, calls })?;
         return Ok(());
     }
     let mut is_later = false;
