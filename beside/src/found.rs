@@ -1,125 +1,87 @@
-//! What a call gave, in the same form from every side.
+//! In what two sides of a call differ.
 
-use crate::case::verdict;
+use case_format::CallResult;
 
-/// What one call gave. Settings are as in [`Entry`](crate::case::Entry).
-#[derive(Debug, Clone, Default, PartialEq, Eq)]
-pub struct Found {
-    /// 0, 10 or a refusal's number.
-    pub answer: u64,
-    /// With 10, the index of the rule in error.
-    pub error: Option<u64>,
-    /// Rule index and verdict. The Rust's have no removed ones: it does not evaluate such a rule.
-    pub visits: Vec<(u64, u64)>,
-    /// What this call added.
-    pub ids: Vec<u64>,
-    /// What this call added: id or none, and rule index.
-    pub data: Vec<(Option<u64>, u64)>,
-    pub mode: u64,
-    pub access: u64,
-    pub processor: u64,
-    /// All that are held.
-    pub ranges: Vec<(u64, u64)>,
-    /// What this call added, before the drop of unknown variables: rule id and target.
-    pub targets: Vec<(Vec<u8>, Vec<u8>)>,
-    pub allowed: bool,
-    pub stop: Stop,
-}
-
-/// The intervention after a call.
-#[derive(Debug, Clone, Default, PartialEq, Eq)]
-pub enum Stop {
-    #[default]
-    No,
-    /// It stood before the call.
-    Held,
-    /// This call built it.
-    New(Box<Built>),
-}
-
-/// An intervention with its texts.
-#[derive(Debug, Clone, Default, PartialEq, Eq)]
-pub struct Built {
-    pub status: u64,
-    pub drop: bool,
-    pub url: Option<Vec<u8>>,
-    pub log: Option<Vec<u8>>,
-    pub ids: Vec<u64>,
-    pub phase: u64,
-    pub id: Option<u64>,
-    pub msg: Option<Vec<u8>>,
-    pub logdata: Option<Vec<u8>>,
-    pub rev: Option<Vec<u8>>,
-    pub ver: Option<Vec<u8>>,
-    pub severity: Option<u64>,
-    pub maturity: Option<u64>,
-    pub accuracy: Option<u64>,
-}
-
-impl Found {
-    /// The visits at which a rule was evaluated.
-    pub fn evaluated(&self) -> impl Iterator<Item = (u64, u64)> + '_ {
-        let is_evaluated = |visit: &&(u64, u64)| visit.1 != verdict::REMOVED;
-        self.visits.iter().filter(is_evaluated).copied()
-    }
-
-    /// The names of the fields in which another side differs; of the visits those of evaluated rules count.
-    pub fn differing(&self, other: &Found) -> Vec<&'static str> {
-        let same = [
-            ("answer", self.answer == other.answer),
-            ("index of the error", self.error == other.error),
-            ("visits", self.evaluated().eq(other.evaluated())),
-            ("ids", self.ids == other.ids),
-            ("data", self.data == other.data),
-            ("mode", self.mode == other.mode),
-            ("body access", self.access == other.access),
-            ("body processor", self.processor == other.processor),
-            ("ranges", self.ranges == other.ranges),
-            ("targets", self.targets == other.targets),
-            ("allowed", self.allowed == other.allowed),
-            ("intervention", self.stop == other.stop),
-        ];
-        let differs = same.iter().filter(|(_, same)| !same);
-        differs.map(|(name, _)| *name).collect()
-    }
+/// The names of the result's lines in which two sides differ; of the visits those of evaluated rules count, because the Rust
+/// has no others.
+pub fn differing(one: &CallResult, other: &CallResult) -> Vec<&'static str> {
+    let same = [
+        ("answer", one.answer == other.answer),
+        ("visits", one.evaluated().eq(other.evaluated())),
+        ("ids", one.ids == other.ids),
+        ("data", one.data == other.data),
+        ("mode", one.mode == other.mode),
+        ("body-access", one.body_access == other.body_access),
+        ("body-processor", one.body_processor == other.body_processor),
+        ("ranges", one.ranges == other.ranges),
+        ("targets", one.targets == other.targets),
+        ("allowed", one.allowed == other.allowed),
+        ("intervention", one.intervention == other.intervention),
+    ];
+    let differs = same.iter().filter(|(_, same)| !same);
+    differs.map(|(name, _)| *name).collect()
 }
 
 #[cfg(test)]
 mod tests {
     use super::*;
+    use case_format::{Answer, BodyProcessor, Intervention, Mode, Stop, Verdict};
 
-    fn differing(change: impl Fn(&mut Found)) -> Vec<&'static str> {
-        let mut other = Found::default();
+    fn changed(change: impl Fn(&mut CallResult)) -> Vec<&'static str> {
+        let mut other = CallResult::empty(1);
         change(&mut other);
-        Found::default().differing(&other)
+        differing(&CallResult::empty(1), &other)
     }
 
     #[test]
-    fn each_field_is_named() {
-        assert!(differing(|_| ()).is_empty());
-        assert_eq!(differing(|it| it.answer = 10), ["answer"]);
-        assert_eq!(differing(|it| it.error = Some(0)), ["index of the error"]);
+    fn each_line_is_named() {
+        assert!(changed(|_| ()).is_empty());
+        assert_eq!(changed(|it| it.answer = Answer::RuleError(0)), ["answer"]);
+        let visit = (0, Verdict::Missed);
+        assert_eq!(changed(|it| it.visits.push(visit)), ["visits"]);
+        assert_eq!(changed(|it| it.ids.push(1)), ["ids"]);
+        assert_eq!(changed(|it| it.data.push((None, 0))), ["data"]);
+        assert_eq!(changed(|it| it.mode = Some(Mode::On)), ["mode"]);
+        assert_eq!(changed(|it| it.body_access = Some(true)), ["body-access"]);
+        let processor = Some(BodyProcessor::Xml);
         assert_eq!(
-            differing(|it| it.visits.push((0, verdict::MISSED))),
-            ["visits"]
+            changed(|it| it.body_processor = processor),
+            ["body-processor"]
         );
-        assert_eq!(differing(|it| it.ids.push(1)), ["ids"]);
-        assert_eq!(differing(|it| it.data.push((None, 0))), ["data"]);
-        assert_eq!(differing(|it| it.mode = 1), ["mode"]);
-        assert_eq!(differing(|it| it.access = 1), ["body access"]);
-        assert_eq!(differing(|it| it.processor = 1), ["body processor"]);
-        assert_eq!(differing(|it| it.ranges.push((1, 2))), ["ranges"]);
-        assert_eq!(
-            differing(|it| it.targets.push((vec![], vec![]))),
-            ["targets"]
-        );
-        assert_eq!(differing(|it| it.allowed = true), ["allowed"]);
-        assert_eq!(differing(|it| it.stop = Stop::Held), ["intervention"]);
+        assert_eq!(changed(|it| it.ranges.push((1, 2))), ["ranges"]);
+        assert_eq!(changed(|it| it.targets.push((vec![], vec![]))), ["targets"]);
+        assert_eq!(changed(|it| it.allowed = true), ["allowed"]);
+        assert_eq!(changed(|it| it.intervention = Stop::Held), ["intervention"]);
+    }
+
+    /// So that a name always has its line, and a line its name.
+    #[test]
+    fn names_are_those_of_the_lines() {
+        let whole = |it: &mut CallResult| {
+            *it = CallResult {
+                phase: 1,
+                answer: Answer::Refused(1),
+                visits: vec![(0, Verdict::Matched)],
+                ids: vec![1],
+                data: vec![(None, 0)],
+                mode: Some(Mode::Off),
+                body_access: Some(false),
+                body_processor: Some(BodyProcessor::Json),
+                ranges: vec![(1, 2)],
+                targets: vec![(vec![], vec![])],
+                allowed: true,
+                intervention: Stop::Held,
+            }
+        };
+        let lines = CallResult::empty(1).lines();
+        let first = |line: &String| line.split(' ').next().map(str::to_string);
+        let words: Vec<String> = lines.iter().filter_map(first).collect();
+        assert_eq!(changed(whole), words[1..]);
     }
 
     #[test]
     fn each_field_of_an_intervention_counts() {
-        let changes: [fn(&mut Built); 14] = [
+        let changes: [fn(&mut Intervention); 14] = [
             |it| it.status = 403,
             |it| it.drop = true,
             |it| it.url = Some(Vec::new()),
@@ -136,14 +98,14 @@ mod tests {
             |it| it.accuracy = Some(0),
         ];
         for change in changes {
-            let mut built = Built::default();
+            let mut built = Intervention::default();
             change(&mut built);
-            assert_ne!(built, Built::default());
+            assert_ne!(built, Intervention::default());
         }
     }
 
     #[test]
     fn removed_visits_are_left_out() {
-        assert!(differing(|it| it.visits.push((0, verdict::REMOVED))).is_empty());
+        assert!(changed(|it| it.visits.push((0, Verdict::Removed))).is_empty());
     }
 }

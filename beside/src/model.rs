@@ -5,8 +5,9 @@ mod directive;
 mod reading;
 mod unit;
 
-use crate::case::{mode, outcome, verdict, Call, Case, Entry};
-use crate::found::{Found, Stop};
+use case_format::{Answer, CallResult, Entry, Mode, Stop, Verdict};
+
+use crate::case::{outcome, Call, Case};
 
 pub use directive::trimmed;
 pub use reading::{Reading, READINGS};
@@ -18,7 +19,7 @@ use reading::Reading as R;
 /// A transaction and the rule set's mode and default status.
 pub struct Model {
     reading: Option<Reading>,
-    ruleset_mode: u64,
+    ruleset_mode: Mode,
     status: u64,
     held: Entry,
 }
@@ -35,30 +36,26 @@ impl Model {
     }
 
     /// One phase call.
-    pub fn call(&mut self, call: &Call) -> Found {
+    pub fn call(&mut self, call: &Call) -> CallResult {
         let was_stopped = self.held.stopped;
         let mut walk = Walk {
             model: self,
             call,
             members: Vec::new(),
-            found: Found::default(),
+            found: CallResult::empty(call.phase),
         };
         if !was_stopped && !walk.model.held.allowed {
             walk.run();
         }
         let mut found = walk.found;
         if was_stopped {
-            found.stop = Stop::Held;
+            found.intervention = Stop::Held;
         }
-        let Entry {
-            mode,
-            access,
-            processor,
-            ..
-        } = self.held;
-        (found.mode, found.access, found.processor) = (mode, access, processor);
-        found.ranges = self.held.ranges.clone();
-        found.allowed = self.held.allowed;
+        let held = &self.held;
+        (found.mode, found.body_access) = (held.mode, held.body_access);
+        found.body_processor = held.body_processor;
+        found.ranges = held.ranges.clone();
+        found.allowed = held.allowed;
         found
     }
 
@@ -66,8 +63,8 @@ impl Model {
         self.reading == Some(reading)
     }
 
-    fn mode(&self) -> u64 {
-        self.held.mode.checked_sub(1).unwrap_or(self.ruleset_mode)
+    fn mode(&self) -> Mode {
+        self.held.mode.unwrap_or(self.ruleset_mode)
     }
 
     /// "Both ends of a range are removed", "A rule without an id is never removed".
@@ -86,14 +83,14 @@ struct Walk<'a> {
     call: &'a Call,
     /// Of the open chain.
     members: Vec<usize>,
-    found: Found,
+    found: CallResult,
 }
 
 impl Walk<'_> {
     fn run(&mut self) {
         let mut next = Some(0);
         while let Some(index) = next {
-            if index >= self.call.rules.len() || self.model.mode() == mode::OFF {
+            if index >= self.call.rules.len() || self.model.mode() == Mode::Off {
                 return;
             }
             next = self.visit(index);
@@ -103,27 +100,27 @@ impl Walk<'_> {
     /// Visits a rule and gives the next index; none where the visit is the last.
     fn visit(&mut self, index: usize) -> Option<usize> {
         if self.model.is_removed(self.call.id_of(index)) {
-            self.note(index, verdict::REMOVED);
+            self.note(index, Verdict::Removed);
             return Some(self.removed(index));
         }
         match self.call.outcomes[index] {
             outcome::ERROR => {
-                self.note(index, verdict::ERROR);
-                (self.found.answer, self.found.error) = (10, Some(index as u64));
+                self.note(index, Verdict::Error);
+                self.found.answer = Answer::RuleError(index as u64);
                 None
             }
             outcome::MISSED => {
-                self.note(index, verdict::MISSED);
+                self.note(index, Verdict::Missed);
                 Some(self.missed(index))
             }
             _ => {
-                self.note(index, verdict::MATCHED);
+                self.note(index, Verdict::Matched);
                 self.matched(index)
             }
         }
     }
 
-    fn note(&mut self, index: usize, verdict: u64) {
+    fn note(&mut self, index: usize, verdict: Verdict) {
         self.found.visits.push((index as u64, verdict));
     }
 
@@ -172,9 +169,9 @@ impl Walk<'_> {
         let held = &mut self.model.held;
         for control in call.actions_of(index).iter().filter(|a| unit::is_ctl(a)) {
             match directive::read(call.text(control.text), call.text(control.value)) {
-                Directive::Mode(number) => held.mode = 1 + number,
-                Directive::Access(number) => held.access = 1 + number,
-                Directive::Processor(number) => held.processor = 1 + number,
+                Directive::Mode(mode) => held.mode = Some(mode),
+                Directive::Access(on) => held.body_access = Some(on),
+                Directive::Processor(name) => held.body_processor = Some(name),
                 Directive::Ranges(ranges) => held.ranges.extend(ranges),
                 Directive::Target(id, target) => self.found.targets.push((id, target)),
                 Directive::Unsupported => {}

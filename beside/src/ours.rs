@@ -3,7 +3,7 @@
 mod read;
 
 use crate::case::{Call, Case};
-use crate::found::Found;
+use case_format::{CallResult, Mode};
 use tivembo::raw::{run_phase, words, Lent, Lists};
 use tivembo::{HostIntervention, HostTransaction, Place};
 
@@ -15,7 +15,7 @@ const SPARE: usize = 2;
 
 /// A transaction with its lists.
 pub struct Ours {
-    mode: u64,
+    mode: Mode,
     status: u64,
     held: Box<HostTransaction>,
     ids: Vec<u64>,
@@ -28,9 +28,10 @@ impl Ours {
     pub fn new(case: &Case) -> Self {
         let mut held = Box::new(unused());
         let (controls, entry) = (&mut held.controls, &case.entry);
-        controls.mode = entry.mode;
-        controls.access = entry.access;
-        controls.processor = entry.processor;
+        controls.mode = entry.mode.map_or(0, |mode| 1 + mode.number());
+        controls.access = entry.body_access.map_or(0, |on| if on { 1 } else { 2 });
+        let processor = entry.body_processor;
+        controls.processor = processor.map_or(0, |name| 1 + name.number());
         controls.ranges = entry.ranges.len() as u64;
         for (at, range) in entry.ranges.iter().enumerate() {
             (controls.starts[at], controls.ends[at]) = *range;
@@ -54,13 +55,13 @@ impl Ours {
     }
 
     /// One call, and what is wrong with it whatever the Rust says.
-    pub fn call(&mut self, call: &Call) -> (Found, Vec<&'static str>) {
+    pub fn call(&mut self, call: &Call) -> (CallResult, Vec<&'static str>) {
         self.lend_lists(call.rules.len());
         let before = self.held.clone();
         let lists_before = (self.ids.clone(), self.entries.clone());
         let lent = Lent {
             phase: call.phase,
-            mode: self.mode,
+            mode: self.mode.number(),
             status: self.status,
             rules: words(&call.rules),
             actions: words(&call.actions),
@@ -77,11 +78,14 @@ impl Ours {
         let visits = answer.visits as usize;
         let faults = self.faults(&before, &lists_before, visits);
         let mut found = self.found(call, &before);
-        found.answer = answer.answer;
-        found.error = (answer.answer == 10).then_some(answer.error);
-        let journal = self.journal.chunks_exact(2).take(visits);
-        found.visits = journal.map(|entry| (entry[0], entry[1])).collect();
+        found.answer = read::answer(&answer);
+        found.visits = self.visits(visits).filter_map(read::visit).collect();
         (found, faults)
+    }
+
+    /// The journal's entries of so many visits.
+    fn visits(&self, count: usize) -> impl Iterator<Item = &[u64]> {
+        self.journal.chunks_exact(2).take(count)
     }
 
     /// Lists with room for each rule and a few entries more; what is in use stays.
@@ -93,55 +97,78 @@ impl Ours {
         self.journal.resize(room(0, 2), PATTERN);
     }
 
-    /// What no call may do: write where it has nothing to write, take back what was there, or change a record idly.
+    /// What no call may do: write where it has nothing to write, take back what was there, change a record idly, or write a
+    /// number that stands for nothing.
     fn faults(
         &self,
         before: &HostTransaction,
         lists: &(Vec<u64>, Vec<u64>),
         visits: usize,
     ) -> Vec<&'static str> {
+        let mut visited = self.visits(visits);
+        let right = [
+            (
+                "record of a call without visits",
+                visits > 0 || *self.held == *before,
+            ),
+            (
+                "a verdict without a name",
+                visited.all(|entry| read::visit(entry).is_some()),
+            ),
+            (
+                "a control without a name",
+                read::settings(&self.held.controls).is_some(),
+            ),
+        ];
+        let lists = self.kept_lists(before, lists, visits);
+        let all = lists
+            .into_iter()
+            .chain(self.kept_record(before))
+            .chain(right);
+        all.filter(|(_, right)| !right)
+            .map(|(name, _)| name)
+            .collect()
+    }
+
+    /// Whether each list is as it was besides what the call added.
+    fn kept_lists(
+        &self,
+        before: &HostTransaction,
+        (ids, entries): &(Vec<u64>, Vec<u64>),
+        visits: usize,
+    ) -> [(&'static str, bool); 3] {
         let kept = |now: &[u64], was: &[u64], from: u64, to: u64, words: usize| {
             let (from, to) = (from as usize * words, to as usize * words);
             from <= to && to <= now.len() && now[..from] == was[..from] && now[to..] == was[to..]
         };
         let now = &self.held;
-        let targets = before.controls.targets as usize;
-        let places = |held: &HostTransaction| (held.controls.phases, held.controls.positions);
-        let ((phases, positions), (old_phases, old_positions)) = (places(now), places(before));
-        let journal = self.journal.get(2 * visits..);
-        let right = [
-            (
-                "ids list besides the new ids",
-                kept(&self.ids, &lists.0, before.ids, now.ids, 1),
-            ),
-            (
-                "data list besides the new entries",
-                kept(&self.entries, &lists.1, before.entries, now.entries, 4),
-            ),
-            (
-                "journal after the visits",
-                journal.is_some_and(|rest| rest.iter().all(|word| *word == PATTERN)),
-            ),
-            (
-                "record of a call without visits",
-                visits > 0 || **now == *before,
-            ),
-            (
-                "targets held before",
-                phases[..targets] == old_phases[..targets]
-                    && positions[..targets] == old_positions[..targets],
-            ),
-            (
-                "intervention held before",
-                before.intervention.present == 0 || now.intervention == before.intervention,
-            ),
-        ];
-        let wrong = right.iter().filter(|(_, right)| !right);
-        wrong.map(|(name, _)| *name).collect()
+        let ids = kept(&self.ids, ids, before.ids, now.ids, 1);
+        let entries = kept(&self.entries, entries, before.entries, now.entries, 4);
+        let rest = self.journal.get(2 * visits..);
+        let journal = rest.is_some_and(|rest| rest.iter().all(|word| *word == PATTERN));
+        [
+            ("ids list besides the new ids", ids),
+            ("data list besides the new entries", entries),
+            ("journal after the visits", journal),
+        ]
+    }
+
+    /// Whether what was held before a call still is.
+    fn kept_record(&self, before: &HostTransaction) -> [(&'static str, bool); 2] {
+        let (now, was) = (&self.held.controls, &before.controls);
+        let used = ..was.targets as usize;
+        let targets =
+            now.phases[used] == was.phases[used] && now.positions[used] == was.positions[used];
+        let intervention =
+            before.intervention.present == 0 || self.held.intervention == before.intervention;
+        [
+            ("targets held before", targets),
+            ("intervention held before", intervention),
+        ]
     }
 
     /// What stands in transaction and lists after a call.
-    fn found(&self, call: &Call, before: &HostTransaction) -> Found {
+    fn found(&self, call: &Call, before: &HostTransaction) -> CallResult {
         let (now, controls) = (&self.held, &self.held.controls);
         let new = |list: &[u64], from: u64, to: u64, words: usize| {
             let (from, to) = (from as usize * words, (to as usize).saturating_mul(words));
@@ -156,20 +183,21 @@ impl Ours {
             .take(controls.targets as usize)
             .skip(before.controls.targets as usize);
         let target = |(&phase, &position)| read::target(call, Place { phase, position });
-        Found {
+        let (mode, body_access, body_processor) = read::settings(controls).unwrap_or_default();
+        CallResult {
             ids: new(&self.ids, before.ids, now.ids, 1),
             data: data.map(|entry| read::data_entry(call, entry)).collect(),
-            mode: controls.mode,
-            access: controls.access,
-            processor: controls.processor,
+            mode,
+            body_access,
+            body_processor,
             ranges: ranges
                 .take(controls.ranges as usize)
                 .map(|(s, e)| (*s, *e))
                 .collect(),
             targets: places.map(target).collect(),
             allowed: now.allowed == 1,
-            stop: read::stop(call, before, now),
-            ..Found::default()
+            intervention: read::stop(call, before, now),
+            ..CallResult::empty(call.phase)
         }
     }
 }
@@ -192,7 +220,7 @@ fn unused() -> HostTransaction {
 mod tests {
     use super::*;
 
-    /// What is wrong after something was changed behind a call's back, in a transaction with one id and one target.
+    /// What is wrong after something was changed that no call changes, in a transaction with one id and one target.
     fn faults(change: impl Fn(&mut Ours), visits: usize) -> Vec<&'static str> {
         let mut ours = Ours::new(&Case::default());
         (ours.held.ids, ours.held.entries, ours.held.controls.targets) = (1, 1, 1);
@@ -203,6 +231,8 @@ mod tests {
         ours.lend_lists(2);
         let before = ours.held.clone();
         let lists = (ours.ids.clone(), ours.entries.clone());
+        let journal = ours.journal.chunks_exact_mut(2).take(visits);
+        journal.for_each(|visit| visit.fill(0));
         change(&mut ours);
         ours.faults(&before, &lists, visits)
     }
@@ -230,5 +260,11 @@ mod tests {
         );
         let stop = ["intervention held before"];
         assert_eq!(faults(|ours| ours.held.intervention.status = 7, 1), stop);
+        let verdict = ["a verdict without a name"];
+        assert_eq!(faults(|ours| ours.journal[1] = 4, 1), verdict);
+        let control = ["a control without a name"];
+        assert_eq!(faults(|ours| ours.held.controls.mode = 4, 1), control);
+        assert_eq!(faults(|ours| ours.held.controls.access = 3, 1), control);
+        assert_eq!(faults(|ours| ours.held.controls.processor = 5, 1), control);
     }
 }

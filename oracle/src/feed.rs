@@ -3,17 +3,17 @@
 
 use std::sync::{Arc, Mutex};
 
-use published::engine::ruleset::{CompiledRule, CompiledRuleset, RuleEngineMode, Rules};
+use case_format::{Call, Mode, Outcome, Rule, Verdict};
+use published::engine::ruleset::{CompiledRule, CompiledRuleset, Rules};
 use published::error::Error;
 use published::operators::{Operator, OperatorResult};
 use published::parser::{OperatorName, OperatorSpec, VariableName, VariableSpec};
 use published::transformations::TransformationPipeline;
 
-use crate::case::{Call, Outcome, Rule};
-use crate::result::{Verdict, Visit};
+use crate::given;
 
 /// Where the operators of one call's rules write down that they were run.
-pub(crate) type Visits = Arc<Mutex<Vec<Visit>>>;
+pub(crate) type Visits = Arc<Mutex<Vec<(u64, Verdict)>>>;
 
 /// A macro, so that `evaluate_rule` has the operator made anew from its
 /// argument. That fails, which is the rule error. The rule's index stands
@@ -21,7 +21,7 @@ pub(crate) type Visits = Arc<Mutex<Vec<Visit>>>;
 const ERROR_MACRO: &str = "%{error}";
 
 /// The rule set of one call, and where its visits will be found.
-pub(crate) fn ruleset(call: &Call, mode: RuleEngineMode) -> (CompiledRuleset, Visits) {
+pub(crate) fn ruleset(call: &Call, mode: Mode) -> (CompiledRuleset, Visits) {
     let visits = Visits::default();
     let operator = |index| GivenOperator {
         index,
@@ -35,13 +35,16 @@ pub(crate) fn ruleset(call: &Call, mode: RuleEngineMode) -> (CompiledRuleset, Vi
 }
 
 /// The rule set of a call's rules, compiled already, and its markers.
-pub(crate) fn ruleset_of(
-    call: &Call,
-    rules: Vec<CompiledRule>,
-    mode: RuleEngineMode,
-) -> CompiledRuleset {
-    let markers = call.markers.iter().map(|m| (m.name.as_str(), m.position));
-    CompiledRuleset::of_rules(Rules::of_phase(call.phase, rules, markers), mode)
+pub(crate) fn ruleset_of(call: &Call, rules: Vec<CompiledRule>, mode: Mode) -> CompiledRuleset {
+    let names: Vec<String> = call
+        .markers
+        .iter()
+        .map(|m| given::string(&m.name))
+        .collect();
+    let positions = call.markers.iter().map(|m| given::held(m.position));
+    let markers = names.iter().map(String::as_str).zip(positions);
+    let rules = Rules::of_phase(given::phase(call.phase), rules, markers);
+    CompiledRuleset::of_rules(rules, given::mode(mode))
 }
 
 /// The index of the rule that ended the phase with this error.
@@ -62,17 +65,17 @@ pub(crate) fn compiled_rule(
 ) -> CompiledRule {
     let rule = &call.rules[index];
     // As the published `compile` links a chain's rules.
-    let has_next = rule.is_chain && index + 1 < call.rules.len();
+    let has_next = rule.link && index + 1 < call.rules.len();
     CompiledRule {
         id: rule.id.map(|id| id.to_string()),
-        phase: call.phase,
+        phase: given::phase(call.phase),
         variables: variables(rule),
         operator,
         operator_spec: operator_spec(rule, index),
         operator_negated: false,
         transformations: TransformationPipeline::new(),
-        actions: rule.actions.clone(),
-        is_chain: rule.is_chain,
+        actions: rule.actions.iter().map(given::action).collect(),
+        is_chain: rule.link,
         chain_next: has_next.then_some(index + 1),
     }
 }
@@ -123,10 +126,7 @@ impl Operator for GivenOperator {
             (Verdict::Missed, OperatorResult::no_match())
         };
         let mut visits = self.visits.lock().expect("one thread runs a call");
-        visits.push(Visit {
-            index: self.index,
-            verdict,
-        });
+        visits.push((self.index as u64, verdict));
         result
     }
 

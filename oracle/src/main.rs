@@ -3,8 +3,8 @@
 use std::io::{stdin, stdout, BufWriter, Write};
 use std::process::ExitCode;
 
-use oracle::text::{print_case, print_directive, Item, Reader};
-use oracle::{directive, run_case};
+use case_format::{Item, Reader};
+use oracle::{directive, directive_answer, run_case, RustDomain};
 
 fn main() -> ExitCode {
     let mut out = BufWriter::new(stdout().lock());
@@ -21,16 +21,14 @@ fn main() -> ExitCode {
 }
 
 fn answer_all(out: &mut impl Write) -> Result<(), String> {
-    let mut reader = Reader::new(stdin().lock());
+    let mut reader = Reader::within(stdin().lock(), RustDomain);
     loop {
-        let item = reader
-            .item()
-            .map_err(|error| format!("error line {}: {}", error.line, error.reason))?;
-        let printed = match item {
+        let printed = match reader.item().map_err(|error| error.to_string())? {
             None => return Ok(()),
-            Some(Item::Case(case)) => print_case(out, &case, &run_case(&case)),
+            Some(Item::Case(case)) => writeln!(out, "{}", run_case(&case)),
             Some(Item::Directive(ctl)) => {
-                print_directive(out, &directive(&ctl.directive, &ctl.value))
+                let read = directive(&ctl.name, &ctl.value);
+                writeln!(out, "{}", directive_answer(&read))
             }
         };
         printed.map_err(|error| error.to_string())?;

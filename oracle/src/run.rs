@@ -1,47 +1,40 @@
 //! Calls of the published `run_phase` on one transaction, and what it then holds.
 
-use published::engine::control::{CtlDirective, RuleIdRange, TransactionControls};
+use case_format::{Answer, Call, CallResult, Case, CaseResult, Entry, Mode, Stop, Verdict};
+use published::engine::control::CtlDirective;
 use published::engine::intervention::Intervention;
-use published::engine::ruleset::RuleEngineMode;
 use published::engine::transaction::{MatchedData, Transaction};
-use published::parser::{ControlAction, VariableSpec};
+use published::parser::VariableSpec;
 
-use crate::case::{Call, Case, Entry};
-use crate::feed;
-use crate::result::{Answer, CallResult, DataEntry, Stop, Verdict, Visit};
 use crate::targets::Numbered;
+use crate::{feed, found, given};
 
 /// A transaction and the calls made on it.
 pub struct Run {
     transaction: Transaction,
-    mode: RuleEngineMode,
+    mode: Mode,
     block_status: u16,
 }
 
 /// Runs all calls of a case on one transaction.
-pub fn run_case(case: &Case) -> Vec<CallResult> {
+pub fn run_case(case: &Case) -> CaseResult {
     let mut run = Run::new(case.mode, case.block_status, &case.entry);
-    case.calls.iter().map(|call| run.call(call)).collect()
+    CaseResult {
+        name: case.name.clone(),
+        calls: case.calls.iter().map(|call| run.call(call)).collect(),
+    }
 }
 
 /// What the published directive reader makes of a directive and its value.
-pub fn directive(directive: &str, value: &str) -> CtlDirective {
-    CtlDirective::parse(&ControlAction {
-        directive: directive.to_string(),
-        value: value.to_string(),
-    })
+pub fn directive(name: &[u8], value: &[u8]) -> CtlDirective {
+    CtlDirective::parse(&given::control(name, value))
 }
 
 impl Run {
     /// A transaction before its first call.
-    pub fn new(mode: RuleEngineMode, block_status: u16, entry: &Entry) -> Self {
-        let ranges = entry.ranges.iter();
-        let controls = TransactionControls::at_entry(
-            entry.mode,
-            ranges.map(|&(s, e)| RuleIdRange::new(s, e)).collect(),
-            entry.body_access,
-            entry.body_processor.clone(),
-        );
+    pub fn new(mode: Mode, block_status: u64, entry: &Entry) -> Self {
+        let block_status = given::held(block_status);
+        let controls = given::controls(entry);
         let held = entry.stopped.then(Intervention::default);
         Self {
             transaction: Transaction::at_entry(block_status, controls, entry.allowed, held),
@@ -64,12 +57,13 @@ impl Run {
         let mut result = self.run_phase(call);
         let second_result = second.run_phase(numbered.call());
         assert_eq!(
-            format!("{result:?}"),
-            format!("{second_result:?}"),
+            result, second_result,
             "target directives changed something besides the targets"
         );
-        result.targets = numbered.added(&second.removed_targets()[held..]);
-        Numbered::check_kept(&result.targets, &self.removed_targets()[held..]);
+        let added = numbered.added(&second.removed_targets()[held..]);
+        Numbered::check_kept(&added, &self.removed_targets()[held..]);
+        let bytes = |(id, target): (String, String)| (id.into_bytes(), target.into_bytes());
+        result.targets = added.into_iter().map(bytes).collect();
         result
     }
 
@@ -99,24 +93,24 @@ impl Run {
         let held = self.transaction.has_intervention();
         let (ruleset, visits) = feed::ruleset(call, self.mode);
 
-        let ended = self.transaction.run_phase_of(ruleset, call.phase);
+        let ended = self
+            .transaction
+            .run_phase_of(ruleset, given::phase(call.phase));
 
         let mut visits = std::mem::take(&mut *visits.lock().expect("one thread runs a call"));
         let answer = answer(ended, &mut visits);
         let controls = self.transaction.controls();
-        let ranges = controls.removed_rules().iter();
+        let data = self.transaction.matched_data()[data..].iter();
         CallResult {
+            phase: call.phase,
             answer,
             visits,
-            ids: self.transaction.matched_rules()[ids..].to_vec(),
-            data: self.transaction.matched_data()[data..]
-                .iter()
-                .map(data_entry)
-                .collect(),
-            mode: controls.set_engine_mode(),
+            ids: found::ids(&self.transaction.matched_rules()[ids..]),
+            data: data.map(data_entry).collect(),
+            mode: controls.set_engine_mode().map(found::mode),
             body_access: controls.set_request_body_access(),
-            body_processor: controls.request_body_processor().map(str::to_string),
-            ranges: ranges.map(RuleIdRange::ends).collect(),
+            body_processor: controls.request_body_processor().map(found::body_processor),
+            ranges: found::ranges(controls.removed_rules()),
             targets: Vec::new(),
             allowed: self.transaction.allowed(),
             intervention: self.stop(held),
@@ -127,30 +121,25 @@ impl Run {
         match self.transaction.intervention() {
             None => Stop::No,
             Some(_) if held => Stop::Held,
-            Some(new) => Stop::New(Box::new(new.clone())),
+            Some(new) => Stop::New(Box::new(found::intervention(new))),
         }
     }
 }
 
 /// The answer, with the rule that gave the error as the last visit.
-fn answer(ended: published::error::Result<()>, visits: &mut Vec<Visit>) -> Answer {
+fn answer(ended: published::error::Result<()>, visits: &mut Vec<(u64, Verdict)>) -> Answer {
     let Err(error) = ended else {
         return Answer::Done;
     };
-    let index = feed::index_of_error(&error);
-    visits.push(Visit {
-        index,
-        verdict: Verdict::Error,
-    });
+    let index = feed::index_of_error(&error) as u64;
+    visits.push((index, Verdict::Error));
     Answer::RuleError(index)
 }
 
 /// An entry of the matched data, with the rule index that its portion carries.
-fn data_entry(data: &MatchedData) -> DataEntry {
+fn data_entry(data: &MatchedData) -> (Option<u64>, u64) {
     let portion = data.matched_portion.as_deref();
     let index = portion.and_then(|portion| portion.parse().ok());
-    DataEntry {
-        rule_id: data.rule_id.clone(),
-        index: index.expect("the portion of a match is the rule's index"),
-    }
+    let index = index.expect("the portion of a match is the rule's index");
+    (data.rule_id.as_deref().map(found::id), index)
 }

@@ -7,11 +7,14 @@
 //! the directive's number in the call. The second transaction's targets then
 //! say which target directives were applied, how often and in which order.
 
+use case_format::{Action, Call, Kind};
 use published::engine::control::{CtlDirective, TransactionControls};
-use published::parser::{Action, ControlAction, VariableSpec};
+use published::parser::VariableSpec;
 
-use crate::case::Call;
-use crate::result::Target;
+use crate::given;
+
+/// The rule id and the target of a directive.
+type Target = (String, String);
 
 /// A call whose target directives are numbered.
 pub(crate) struct Numbered {
@@ -31,10 +34,8 @@ impl Numbered {
         let mut targets = Vec::new();
         for action in call.rules.iter_mut().flat_map(|rule| &mut rule.actions) {
             if let Some(target) = target_of(action) {
-                *action = Action::Control(ControlAction {
-                    directive: "ruleRemoveTargetById".to_string(),
-                    value: format!("{};TX", targets.len()),
-                });
+                let value = format!("{};TX", targets.len());
+                *action = Action::of(Kind::Ctl, 0, b"ruleRemoveTargetById", value.as_bytes());
                 targets.push(target);
             }
         }
@@ -57,7 +58,7 @@ impl Numbered {
     /// transaction, fed with the directives as given, kept of them.
     pub(crate) fn check_kept(added: &[Target], kept: &[(String, VariableSpec)]) {
         let mut controls = TransactionControls::default();
-        for Target { rule_id, target } in added.iter().cloned() {
+        for (rule_id, target) in added.iter().cloned() {
             controls.apply(CtlDirective::RuleRemoveTargetById { rule_id, target });
         }
         assert_eq!(
@@ -70,11 +71,11 @@ impl Numbered {
 
 /// The target of an action that is a supported target directive.
 fn target_of(action: &Action) -> Option<Target> {
-    let Action::Control(control) = action else {
+    if action.kind() != Kind::Ctl {
         return None;
-    };
-    match CtlDirective::parse(control) {
-        CtlDirective::RuleRemoveTargetById { rule_id, target } => Some(Target { rule_id, target }),
+    }
+    match CtlDirective::parse(&given::control(action.text(), action.value())) {
+        CtlDirective::RuleRemoveTargetById { rule_id, target } => Some((rule_id, target)),
         _ => None,
     }
 }

@@ -7,14 +7,14 @@ use std::hint::black_box;
 use std::sync::Arc;
 use std::time::{Duration, Instant};
 
+use case_format::{Call, Case, Outcome};
 use published::engine::control::{RuleIdRange, TransactionControls};
 use published::engine::phase::Phase;
 use published::engine::ruleset::{CompiledRule, CompiledRuleset};
 use published::engine::transaction::Transaction;
 use published::operators::{Operator, OperatorResult};
 
-use crate::case::{Call, Case, Outcome};
-use crate::feed;
+use crate::{feed, given};
 
 /// How a missed rule is made.
 #[derive(Debug, Clone, Copy, PartialEq, Eq)]
@@ -42,12 +42,11 @@ impl Timed {
         let rules = (0..call.rules.len())
             .map(|index| rule(call, index, missed))
             .collect();
-        let ranges = case.entry.ranges.iter();
         Self {
             ruleset: Arc::new(feed::ruleset_of(call, rules, case.mode)),
-            phase: call.phase,
-            block_status: case.block_status,
-            ranges: ranges.map(|&(s, e)| RuleIdRange::new(s, e)).collect(),
+            phase: given::phase(call.phase),
+            block_status: given::held(case.block_status),
+            ranges: given::ranges(&case.entry.ranges),
         }
     }
 

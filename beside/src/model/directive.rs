@@ -1,18 +1,29 @@
 //! The directives, from 01's "Corners first": `CtlDirective::parse`.
 
-/// A directive with its values in 01's numbers.
+use case_format::{BodyProcessor, Mode};
+
+/// What a directive says.
 pub enum Directive {
-    Mode(u64),
-    Access(u64),
-    Processor(u64),
+    Mode(Mode),
+    Access(bool),
+    Processor(BodyProcessor),
     Ranges(Vec<(u64, u64)>),
     Target(Vec<u8>, Vec<u8>),
     Unsupported,
 }
 
-const MODES: [&[u8]; 3] = [b"On", b"DetectionOnly", b"Off"];
-const ACCESS: [&[u8]; 2] = [b"On", b"Off"];
-const PROCESSORS: [&[u8]; 4] = [b"URLENCODED", b"MULTIPART", b"JSON", b"XML"];
+const MODES: [(&[u8], Mode); 3] = [
+    (b"On", Mode::On),
+    (b"DetectionOnly", Mode::DetectionOnly),
+    (b"Off", Mode::Off),
+];
+const ACCESS: [(&[u8], bool); 2] = [(b"On", true), (b"Off", false)];
+const PROCESSORS: [(&[u8], BodyProcessor); 4] = [
+    (b"URLENCODED", BodyProcessor::Urlencoded),
+    (b"MULTIPART", BodyProcessor::Multipart),
+    (b"JSON", BodyProcessor::Json),
+    (b"XML", BodyProcessor::Xml),
+];
 
 pub fn read(name: &[u8], value: &[u8]) -> Directive {
     let (name, value) = (trimmed(name), trimmed(value));
@@ -41,9 +52,10 @@ pub fn trimmed(text: &[u8]) -> &[u8] {
     &text[start..end]
 }
 
-fn among(known: &[&[u8]], value: &[u8]) -> Option<u64> {
-    let at = known.iter().position(|it| it.eq_ignore_ascii_case(value))?;
-    Some(at as u64)
+fn among<T: Copy>(known: &[(&[u8], T)], value: &[u8]) -> Option<T> {
+    let mut known = known.iter();
+    let found = known.find(|(name, _)| name.eq_ignore_ascii_case(value))?;
+    Some(found.1)
 }
 
 /// "cut at the first ";", both sides trimmed and not empty"

@@ -1,11 +1,11 @@
 //! What a closed unit gives: "its id is listed, controls apply, then flow, then the disruptive action. Flow, disruptive
 //! action and metadata are the starter's."
 
+use case_format::{Intervention, Mode, Stop};
 use tivembo::Action;
 
 use super::{Reading as R, Walk};
-use crate::case::{kind, mode, outcome};
-use crate::found::{Built, Stop};
+use crate::case::{kind, outcome};
 
 pub fn is_ctl(action: &Action) -> bool {
     action.kind == kind::CTL
@@ -59,7 +59,7 @@ impl Walk<'_> {
     }
 
     /// "Allow takes effect in any mode; the four stopping actions only in On".
-    fn ends(&mut self, starter: usize, closing: usize, mode: u64) -> bool {
+    fn ends(&mut self, starter: usize, closing: usize, mode: Mode) -> bool {
         let mut disruptive = self.call.actions_of(starter).iter();
         let chosen = match self.model.reads(R::FirstDisruptive) {
             true => disruptive.find(|action| is_disruptive(action)),
@@ -69,16 +69,16 @@ impl Walk<'_> {
             return false;
         };
         if action.kind == kind::ALLOW {
-            let waits = self.model.reads(R::AllowWaits) && mode != mode::ON;
+            let waits = self.model.reads(R::AllowWaits) && mode != Mode::On;
             self.model.held.allowed = !waits;
             return !waits;
         }
-        if mode == mode::ON {
+        if mode == Mode::On {
             let built = self.build(action, starter, closing);
-            self.found.stop = Stop::New(Box::new(built));
+            self.found.intervention = Stop::New(Box::new(built));
             self.model.held.stopped = true;
         }
-        mode == mode::ON
+        mode == Mode::On
     }
 
     fn after_flow(&self, starter: usize, closing: usize) -> usize {
@@ -108,7 +108,7 @@ impl Walk<'_> {
         found.map(|marker| marker.position as usize)
     }
 
-    fn build(&self, action: &Action, starter: usize, closing: usize) -> Built {
+    fn build(&self, action: &Action, starter: usize, closing: usize) -> Intervention {
         let metadata = match self.model.reads(R::ClosingMetadata) {
             true => closing,
             false => starter,
@@ -130,7 +130,7 @@ impl Walk<'_> {
         let id = number(kind::ID);
         let closing_id = self.call.id_of(closing);
         let other = id.filter(|id| Some(*id) != closing_id);
-        Built {
+        Intervention {
             status,
             drop: action.kind == kind::DROP,
             url,

@@ -1,9 +1,44 @@
 //! What the numbers that a call wrote stand for.
 
 use crate::case::Call;
-use crate::found::{Built, Stop};
 use crate::model::trimmed;
-use tivembo::{Act, HostTransaction, Intervention, Place};
+use case_format::{Answer, BodyProcessor, Intervention, Mode, Stop, Verdict};
+use tivembo::{Act, HostAnswer, HostControls, HostTransaction, Place};
+
+/// The answer, with 10 the index of the rule in error.
+pub fn answer(answer: &HostAnswer) -> Answer {
+    match answer.answer {
+        0 => Answer::Done,
+        10 => Answer::RuleError(answer.error),
+        number => Answer::Refused(number),
+    }
+}
+
+/// A visit; none where its verdict has no name, which is a fault of its own.
+pub fn visit(entry: &[u64]) -> Option<(u64, Verdict)> {
+    let verdict = Verdict::from_number(entry[1])?;
+    Some((entry[0], verdict))
+}
+
+/// Mode, body access and body processor, each none where nothing set it.
+pub type Settings = (Option<Mode>, Option<bool>, Option<BodyProcessor>);
+
+/// What is set; none where a number has no name.
+pub fn settings(controls: &HostControls) -> Option<Settings> {
+    let mode = set(controls.mode, Mode::from_number)?;
+    let on_off = |number| [true, false].get(number as usize).copied();
+    let access = set(controls.access, on_off)?;
+    let processor = set(controls.processor, BodyProcessor::from_number)?;
+    Some((mode, access, processor))
+}
+
+/// A setting is 0 where nothing set it, else 1 and its value's number.
+fn set<T>(number: u64, named: impl Fn(u64) -> Option<T>) -> Option<Option<T>> {
+    match number.checked_sub(1) {
+        None => Some(None),
+        Some(number) => Some(Some(named(number)?)),
+    }
+}
 
 /// A data entry. One of another phase than the call's has no rule of this call: its index is then nonsense on purpose.
 pub fn data_entry(call: &Call, entry: &[u64]) -> (Option<u64>, u64) {
@@ -17,17 +52,17 @@ pub fn data_entry(call: &Call, entry: &[u64]) -> (Option<u64>, u64) {
 
 /// The intervention after a call, with its texts.
 pub fn stop(call: &Call, before: &HostTransaction, now: &HostTransaction) -> Stop {
-    match Intervention::from_record(&now.intervention) {
+    match tivembo::Intervention::from_record(&now.intervention) {
         None => Stop::No,
         Some(_) if before.intervention.present == 1 => Stop::Held,
         Some(new) => Stop::New(Box::new(built(call, &new))),
     }
 }
 
-fn built(call: &Call, new: &Intervention) -> Built {
+fn built(call: &Call, new: &tivembo::Intervention) -> Intervention {
     let text = |place: Option<Place>| place.map(|place| text(call, place));
     let metadata = &new.metadata;
-    Built {
+    Intervention {
         status: new.status,
         drop: new.drop,
         url: text(new.url),

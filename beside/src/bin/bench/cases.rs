@@ -1,6 +1,7 @@
 //! The calls that are timed beside the Rust.
 
-use beside::case::{outcome, Call, Case, Entry};
+use beside::case::{outcome, Call, Case};
+use case_format::Entry;
 use tivembo::{Act, Builder, RuleSet};
 
 use crate::core_rules;
@@ -70,22 +71,12 @@ fn with_matches() -> Vec<Measured> {
 /// A case of one call in phase 2, mode On.
 pub fn case(rules: Builder, outcomes: Vec<u8>, ranges: Vec<(u64, u64)>) -> Case {
     let set = rules.build().expect("the rules are within the limits");
-    let records = set.records();
-    let call = Call {
-        phase: 2,
-        rules: records.rules.to_vec(),
-        outcomes,
-        actions: records.actions.to_vec(),
-        markers: records.markers.to_vec(),
-        text: records.text.to_vec(),
-    };
     Case {
-        status: 403,
         entry: Entry {
             ranges,
             ..Entry::default()
         },
-        calls: vec![call],
+        calls: vec![Call::of_rules(2, &set, outcomes)],
         ..Case::default()
     }
 }

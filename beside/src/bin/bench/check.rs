@@ -1,18 +1,19 @@
 //! All sides give the same before they are timed.
 
 use beside::case::Case;
+use beside::found::differing;
 use beside::ours::Ours;
-use beside::rust;
-use oracle::{Missed, Timed};
+use oracle::{run_case, Missed, Timed};
 
 use crate::gateway::{Gateway, Results};
 
 /// Compares everything that a case's only call gives with the Rust's, and then what each timed side gives with that.
 pub fn check(case: &Case) {
     let call = &case.calls[0];
-    let found = rust::call(&mut rust::run(case), call);
+    let given = case.written("checked");
+    let found = run_case(&given).calls.remove(0);
     let (ours, faults) = Ours::new(case).call(call);
-    let differing = found.differing(&ours);
+    let differing = differing(&found, &ours);
     assert!(differing.is_empty(), "the sides differ in {differing:?}");
     assert!(faults.is_empty(), "wrong with our side: {faults:?}");
     // No rule of these calls is removed, so the Rust evaluates all that the journal has.
@@ -22,11 +23,15 @@ pub fn check(case: &Case) {
     let data = found.data.iter().map(|entry| entry.0.as_ref().map(text));
     let matched = (found.ids.iter().map(text).collect(), data.collect());
     for missed in [Missed::WithVariable, Missed::Bare] {
-        assert_eq!(Timed::new(&rust::case(case), missed).matched(), matched);
+        assert_eq!(Timed::new(&given, missed).matched(), matched);
     }
 
     let expected = Results {
-        visits: found.visits,
+        visits: found
+            .visits
+            .iter()
+            .map(|(index, it)| (*index, it.number()))
+            .collect(),
         ids: found.ids,
         data: found.data,
     };

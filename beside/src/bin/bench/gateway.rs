@@ -34,7 +34,7 @@ impl<'a> Gateway<'a> {
         Self {
             lent: Lent {
                 phase: call.phase,
-                mode: case.mode,
+                mode: case.mode.number(),
                 status: u64::from(case.status),
                 rules: words(&call.rules),
                 actions: words(&call.actions),

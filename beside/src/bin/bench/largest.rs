@@ -1,7 +1,6 @@
 //! The largest legal calls: 512 rules that all point at 4,096 ctl actions over 65,536 bytes of text.
 
 use beside::case::{kind, outcome, Call, Case};
-use beside::rust;
 use oracle::{Missed, Timed};
 use tivembo::{Action, Part, Rule};
 
@@ -33,7 +32,7 @@ fn print_ratio(name: &str, outcome: u8) -> usize {
     let case = case(&settings(), outcome);
     check(&case);
     let mut gateway = Gateway::new(&case);
-    let timed = Timed::new(&rust::case(&case), Missed::WithVariable);
+    let timed = Timed::new(&case.written("largest"), Missed::WithVariable);
     let (mut ours, mut rust) = (f64::MAX, f64::MAX);
     for _ in 0..ROUNDS {
         ours = ours.min(gateway.time(1).as_nanos() as f64);
@@ -100,7 +99,6 @@ fn case(directives: &Directives, outcome: u8) -> Case {
         text: text.clone(),
     };
     Case {
-        status: 403,
         calls: vec![call],
         ..Case::default()
     }

@@ -4,7 +4,6 @@ use std::hint::black_box;
 use std::time::{Duration, Instant};
 
 use beside::case::Case;
-use beside::rust;
 use oracle::{Missed, Timed};
 
 use crate::check::check;
@@ -44,7 +43,7 @@ impl Times {
 /// Compares the sides of a case and then times them.
 pub fn of(case: &Case) -> Times {
     check(case);
-    let given = rust::case(case);
+    let given = case.written("timed");
     let with_variable = Timed::new(&given, Missed::WithVariable);
     let without = Timed::new(&given, Missed::Bare);
     let mut gateway = Gateway::new(case);

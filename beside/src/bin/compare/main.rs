@@ -3,19 +3,20 @@
 //! compare --record [N [SEED]]
 //!
 //! Makes random cases and runs N calls through the proved library, the published Rust and a plain model written from 01, and
-//! compares the results field by field. Prints what was reached, the first differences as small cases, and as its last line
-//! `N calls, D differences`; the exit status is 1 where D is not 0, or where a run of 50,000 calls or more missed a line.
+//! compares the results field by field. Prints differences as small cases, each cause once, what was reached, and as its last
+//! line `N calls, D differences`; the exit status is 1 where D is not 0, or where a run of 50,000 calls or more missed a line.
 //!
 //! With --planted the model with a wrong reading stands in for the library, which must be found; --readings lists them.
 //! --record chooses N small cases (2,000 or more) that reach every line but those of large calls, and writes them with the
 //! Rust's results below the current folder; see record.rs.
 
+mod cause;
+mod differences;
 mod make;
 mod numbers;
 mod reached;
 mod record;
 mod run;
-mod show;
 mod shrink;
 mod sides;
 
@@ -24,12 +25,10 @@ use std::path::Path;
 use std::process::ExitCode;
 use std::time::Instant;
 
-use beside::case::Case;
-use beside::model::{Reading, READINGS};
+use beside::model::READINGS;
 
 use reached::FULL;
 use run::{Options, Report};
-use sides::{directives, Ran, Sides};
 
 const USAGE: &str =
     "usage: compare [--planted READING] [N [SEED]], compare --readings, or compare --record [N [SEED]]";
@@ -105,10 +104,8 @@ fn record(count: u64, seed: u64) -> ExitCode {
 
 /// Prints what came of a run, and says whether a line of the table is missing that should be there.
 fn print(options: Options, report: &Report) -> bool {
-    for (number, (_, case)) in (1..).zip(&report.shown) {
-        let small = shrink::shrunk(case.clone(), |case| ran(case, options.planted).is_some());
-        print_difference(&small, options.planted, &format!("difference-{number}"));
-    }
+    let cases = report.found.iter().map(|found| &found.case);
+    differences::print(cases, options.planted);
     if let Some(reading) = options.planted {
         let planted = READINGS.iter().find(|(_, known, _)| *known == reading);
         planted
@@ -129,41 +126,4 @@ fn print(options: Options, report: &Report) -> bool {
             .for_each(|line| println!("not reached: {line}"));
     }
     is_wrong
-}
-
-/// The calls of a case up to the one that differs, none where none does.
-fn ran(case: &Case, planted: Option<Reading>) -> Option<Vec<(u64, Ran)>> {
-    let mut sides = Sides::new(case, planted);
-    let mut made = Vec::new();
-    for call in &case.calls {
-        if sides.is_refused(call, &directives(call)) {
-            continue;
-        }
-        made.push((call.phase, sides.call(call)));
-        if made
-            .last()
-            .is_some_and(|(_, ran)| !ran.differing.is_empty())
-        {
-            return Some(made);
-        }
-    }
-    None
-}
-
-fn print_difference(case: &Case, planted: Option<Reading>, name: &str) {
-    let made = ran(case, planted).expect("it was shrunk as long as it differs");
-    let (_, last) = made.last().expect("the last call differs");
-    let whose = if planted.is_some() { "planted" } else { "ours" };
-    println!("{}", show::case(case, name));
-    println!("# {whose} differs in: {}", last.differing.join(", "));
-    println!("# the Rust");
-    println!(
-        "{}",
-        show::results(name, made.iter().map(|(phase, ran)| (*phase, &ran.rust)))
-    );
-    println!("# {whose}");
-    println!(
-        "{}",
-        show::results(name, made.iter().map(|(phase, ran)| (*phase, &ran.other)))
-    );
 }

@@ -5,8 +5,9 @@ mod limits;
 mod rules;
 mod texts;
 
-use beside::case::{mode, Call, Case, Entry};
+use beside::case::{Call, Case};
 use beside::random::Random;
+use case_format::{BodyProcessor, Entry, Mode};
 use tivembo::Marker;
 
 use rules::Rules;
@@ -54,14 +55,14 @@ pub fn case(random: &mut Random) -> Case {
     let calls = random.pick(&[1, 1, 1, 1, 2, 2, 3, 4]);
     Case {
         mode: random.pick(&[
-            mode::ON,
-            mode::ON,
-            mode::ON,
-            mode::ON,
-            mode::ON,
-            mode::DETECTION_ONLY,
-            mode::DETECTION_ONLY,
-            mode::OFF,
+            Mode::On,
+            Mode::On,
+            Mode::On,
+            Mode::On,
+            Mode::On,
+            Mode::DetectionOnly,
+            Mode::DetectionOnly,
+            Mode::Off,
         ]),
         status: status(random),
         entry: entry(random),
@@ -80,18 +81,19 @@ fn status(random: &mut Random) -> u16 {
 
 fn entry(random: &mut Random) -> Entry {
     let ranges = random.pick(&[0, 0, 0, 0, 1, 1, 2, 4]);
-    let setting = |random: &mut Random, values: usize| match random.below(4) {
-        0 => 1 + random.below(values) as u64,
-        _ => 0,
-    };
     Entry {
-        mode: setting(random, 3),
-        access: setting(random, 2),
-        processor: setting(random, 4),
+        mode: setting(random, Mode::ALL),
+        body_access: setting(random, &[true, false]),
+        body_processor: setting(random, BodyProcessor::ALL),
         ranges: (0..ranges).map(|_| range(random)).collect(),
         allowed: random.once_in(60),
         stopped: random.once_in(60),
     }
+}
+
+/// Once in four times one of the values.
+fn setting<T: Copy>(random: &mut Random, values: &[T]) -> Option<T> {
+    random.once_in(4).then(|| random.pick(values))
 }
 
 /// A range as a host may hold it: 01 does not look whether it starts above its end.

@@ -2,7 +2,7 @@
 //! and its value's number, and what may be absent is 0, or 1 and itself.
 
 use beside::case::{Call, Case};
-use beside::found::{Built, Found, Stop};
+use case_format::{Answer, BodyProcessor, CallResult, Intervention, Mode, Stop};
 use tivembo::raw::words;
 
 /// One line.
@@ -10,14 +10,14 @@ use tivembo::raw::words;
 struct Line(String);
 
 /// A case with its results.
-pub fn line(case: &Case, found: &[Found]) -> String {
+pub fn line(case: &Case, found: &[CallResult]) -> String {
     let (mut line, entry) = (Line::default(), &case.entry);
-    line.numbers([entry.mode, entry.access, entry.processor]);
+    line.settings(entry.mode, entry.body_access, entry.body_processor);
     line.numbers([entry.allowed.into(), entry.stopped.into()]);
     line.pairs(&entry.ranges);
     line.count(case.calls.len());
     for (call, found) in case.calls.iter().zip(found) {
-        line.numbers([call.phase, case.mode, case.status.into()]);
+        line.numbers([call.phase, case.mode.number(), case.status.into()]);
         line.call(call);
         line.found(found);
     }
@@ -50,6 +50,12 @@ impl Line {
         self.numbers(pairs.iter().flat_map(|(one, other)| [*one, *other]));
     }
 
+    fn settings(&mut self, mode: Option<Mode>, on: Option<bool>, name: Option<BodyProcessor>) {
+        self.number(mode.map_or(0, |mode| 1 + mode.number()));
+        self.number(on.map_or(0, |on| if on { 1 } else { 2 }));
+        self.number(name.map_or(0, |name| 1 + name.number()));
+    }
+
     fn records(&mut self, count: usize, words: &[u64]) {
         self.count(count);
         self.numbers(words.iter().copied());
@@ -63,15 +69,22 @@ impl Line {
         self.bytes(&call.outcomes);
     }
 
-    fn found(&mut self, found: &Found) {
-        self.numbers([found.answer, found.error.unwrap_or(0)]);
-        self.pairs(&found.visits);
+    fn found(&mut self, found: &CallResult) {
+        self.numbers(match found.answer {
+            Answer::Done => [0, 0],
+            Answer::RuleError(index) => [10, index],
+            Answer::Refused(number) => [number, 0],
+        });
+        self.count(found.visits.len());
+        for (index, verdict) in &found.visits {
+            self.numbers([*index, verdict.number()]);
+        }
         self.records(found.ids.len(), &found.ids);
         self.count(found.data.len());
         for (id, index) in &found.data {
             self.numbers([id.is_some().into(), id.unwrap_or(0), *index]);
         }
-        self.numbers([found.mode, found.access, found.processor]);
+        self.settings(found.mode, found.body_access, found.body_processor);
         self.pairs(&found.ranges);
         self.count(found.targets.len());
         for (id, target) in &found.targets {
@@ -79,14 +92,14 @@ impl Line {
             self.bytes(target);
         }
         self.number(found.allowed.into());
-        match &found.stop {
+        match &found.intervention {
             Stop::No => self.number(0),
             Stop::Held => self.number(2),
             Stop::New(built) => self.built(built),
         }
     }
 
-    fn built(&mut self, built: &Built) {
+    fn built(&mut self, built: &Intervention) {
         self.numbers([1, built.status, built.drop.into()]);
         self.text(&built.url);
         self.text(&built.log);

@@ -10,7 +10,7 @@ mod walk;
 mod walked;
 
 use beside::case::{Call, Case};
-use beside::found::Found;
+use case_format::CallResult;
 
 use crate::sides::{Before, Directives};
 
@@ -23,7 +23,7 @@ pub struct Seen<'a> {
     pub call: &'a Call,
     pub directives: &'a Directives,
     pub before: &'a Before,
-    pub rust: &'a Found,
+    pub rust: &'a CallResult,
     walked: Walked,
 }
 
@@ -69,7 +69,7 @@ impl<'a> Seen<'a> {
         call: &'a Call,
         directives: &'a Directives,
         before: &'a Before,
-        rust: &'a Found,
+        rust: &'a CallResult,
     ) -> Self {
         Self {
             case,

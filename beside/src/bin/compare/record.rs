@@ -5,13 +5,13 @@ use std::io;
 use std::path::Path;
 
 use beside::case::Case;
-use beside::found::Found;
 use beside::random::Random;
+use case_format::{CallResult, CaseResult};
 
 use crate::numbers;
 use crate::reached::{Marks, Seen, Table};
 use crate::sides::{directives, Sides};
-use crate::{make, show};
+use crate::{differences, make};
 
 /// Each line of the table that a small case can reach is reached by so many cases.
 const EACH: u64 = 20;
@@ -42,18 +42,18 @@ const MOST_MARKERS: usize = 16;
 struct Taken {
     name: String,
     case: Case,
-    found: Vec<Found>,
+    found: Vec<CallResult>,
 }
 
 /// Writes `count` cases or more: cases/recorded.cases and cases/recorded.expected in the case format, and in numbers
 /// crates/replay/stdin, all below a folder. Gives the lines of the table that too few cases reach.
 pub fn record(folder: &Path, count: usize, seed: u64) -> io::Result<Vec<&'static str>> {
     let (taken, missing) = taken(count, seed);
-    let cases = taken.iter().map(|it| show::case(&it.case, &it.name));
+    let cases = taken.iter().map(|it| differences::case(&it.case, &it.name));
     write(folder, "cases/recorded.cases", cases)?;
     let results = taken.iter().map(|it| {
-        let phases = it.case.calls.iter().map(|call| call.phase);
-        show::results(&it.name, phases.zip(&it.found))
+        let (name, calls) = (it.name.clone(), it.found.clone());
+        CaseResult { name, calls }.to_string()
     });
     write(folder, "cases/recorded.expected", results)?;
     let lines = taken.iter().map(|it| numbers::line(&it.case, &it.found));
@@ -112,7 +112,7 @@ fn is_within(case: &Case, size: &Size) -> bool {
 }
 
 /// The Rust's results and what the case reached; none where 01 turns a call away.
-fn run(case: &Case) -> Option<(Vec<Found>, Marks)> {
+fn run(case: &Case) -> Option<(Vec<CallResult>, Marks)> {
     let mut sides = Sides::new(case, None);
     let (mut found, mut all) = (Vec::new(), Marks::default());
     for call in &case.calls {

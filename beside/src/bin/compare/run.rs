@@ -15,8 +15,9 @@ use crate::sides::{directives, Sides};
 /// Calls of a block. Each has random numbers of its own, so that the result is the same with any number of threads.
 const BLOCK: u64 = 1_000;
 
-/// How many differences are kept to be shown.
-pub const SHOWN: usize = 3;
+/// So many differences are looked at for their causes, the first ones, and the first of each set of lines that differ: among
+/// many of one cause, a rare other one is then still seen if it changes something else.
+const LOOKED_AT: usize = 50;
 
 /// What is run.
 #[derive(Clone, Copy)]
@@ -32,8 +33,15 @@ pub struct Report {
     pub table: Table,
     pub left_out: u64,
     pub differences: u64,
-    /// The first cases that differ, with their blocks.
-    pub shown: Vec<(u64, Case)>,
+    /// The differences that are looked at.
+    pub found: Vec<Found>,
+}
+
+/// A case that differs, up to the call that does.
+pub struct Found {
+    block: u64,
+    pub case: Case,
+    differing: Vec<String>,
 }
 
 impl Report {
@@ -41,10 +49,21 @@ impl Report {
         self.table.add(&other.table);
         self.left_out += other.left_out;
         self.differences += other.differences;
-        self.shown.extend(other.shown);
+        let mut found = std::mem::take(&mut self.found);
+        found.extend(other.found);
         // Blocks end in any order.
-        self.shown.sort_by_key(|(block, _)| *block);
-        self.shown.truncate(SHOWN);
+        found.sort_by_key(|it| it.block);
+        for it in found {
+            if self.is_looked_at(&it.differing) {
+                self.found.push(it);
+            }
+        }
+    }
+
+    /// Whether one more difference is, in these lines.
+    fn is_looked_at(&self, differing: &[String]) -> bool {
+        let mut found = self.found.iter();
+        self.found.len() < LOOKED_AT || !found.any(|it| it.differing == differing)
     }
 }
 
@@ -100,10 +119,15 @@ fn run_case(options: Options, block: u64, case: &Case, left: &mut u64, report: &
         report.table.count(&seen.marks());
         if !ran.differing.is_empty() {
             report.differences += 1;
-            let mut case = case.clone();
-            case.calls.truncate(at + 1);
-            report.shown.push((block, case));
-            report.shown.truncate(SHOWN);
+            if report.is_looked_at(&ran.differing) {
+                let (mut case, differing) = (case.clone(), ran.differing);
+                case.calls.truncate(at + 1);
+                report.found.push(Found {
+                    block,
+                    case,
+                    differing,
+                });
+            }
             return;
         }
     }

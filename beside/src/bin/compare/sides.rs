@@ -1,10 +1,10 @@
 //! All sides of a case, and in what they differ.
 
-use beside::case::{verdict, Call, Case};
-use beside::found::{Found, Stop};
+use beside::case::{Call, Case};
+use beside::found::differing;
 use beside::model::{Model, Reading};
 use beside::ours::Ours;
-use beside::rust;
+use case_format::{CallResult, Mode, Stop, Verdict};
 use oracle::{CtlDirective, Run};
 
 /// 01's refusals 8 and 9.
@@ -26,7 +26,7 @@ pub struct Before {
     pub calls: usize,
     /// Of the call before, 0 where there is none.
     pub phase: u64,
-    pub mode: u64,
+    pub mode: Option<Mode>,
     pub ranges: Vec<(u64, u64)>,
     pub targets: usize,
     pub allowed: bool,
@@ -36,9 +36,11 @@ pub struct Before {
 /// One call on all sides.
 pub struct Ran {
     pub before: Before,
-    pub rust: Found,
+    pub rust: CallResult,
     /// The proved library, or what was planted in its place.
-    pub other: Found,
+    pub other: CallResult,
+    /// The model, where it is not what was planted.
+    pub model: Option<CallResult>,
     /// In what they differ, as sentences.
     pub differing: Vec<String>,
 }
@@ -49,7 +51,7 @@ pub type Directives = Vec<Option<CtlDirective>>;
 pub fn directives(call: &Call) -> Directives {
     let read = |action| {
         let is_ctl = beside::model::is_ctl(action);
-        is_ctl.then(|| CtlDirective::parse(&rust::control(call, action)))
+        is_ctl.then(|| oracle::directive(call.text(action.text), call.text(action.value)))
     };
     call.actions.iter().map(read).collect()
 }
@@ -58,7 +60,7 @@ impl Sides {
     pub fn new(case: &Case, planted: Option<Reading>) -> Self {
         let entry = &case.entry;
         Self {
-            rust: rust::run(case),
+            rust: Run::new(case.mode, case.status.into(), entry),
             ours: Ours::new(case),
             model: Model::new(case, planted),
             is_planted: planted.is_some(),
@@ -91,22 +93,16 @@ impl Sides {
 
     /// Makes the call on all sides.
     pub fn call(&mut self, call: &Call) -> Ran {
-        let rust = rust::call(&mut self.rust, call);
+        let rust = self.rust.call(&call.written());
         let model = self.model.call(call);
-        let mut differing = named("", rust.differing(&model));
-        let mut other = model;
-        if !self.is_planted {
-            let model = other;
-            differing = named("the model's ", rust.differing(&model));
+        let (other, model, differing) = if self.is_planted {
+            let differing = named("", differing(&rust, &model));
+            (model, None, differing)
+        } else {
             let (ours, faults) = self.ours.call(call);
-            differing.extend(named("", rust.differing(&ours)));
-            differing.extend(named("", faults));
-            if ours.visits != model.visits {
-                differing.push("the journal is not the model's".to_string());
-            }
-            differing.extend(removal_fault(call, &self.before, &rust, &ours));
-            other = ours;
-        }
+            let differing = self.differing(call, &rust, &model, &ours, faults);
+            (ours, Some(model), differing)
+        };
         let after = Before {
             calls: self.before.calls + 1,
             phase: call.phase,
@@ -114,14 +110,33 @@ impl Sides {
             ranges: rust.ranges.clone(),
             targets: self.before.targets + rust.targets.len(),
             allowed: rust.allowed,
-            stopped: rust.stop != Stop::No,
+            stopped: rust.intervention != Stop::No,
         };
         Ran {
             before: std::mem::replace(&mut self.before, after),
             rust,
             other,
+            model,
             differing,
         }
+    }
+
+    fn differing(
+        &self,
+        call: &Call,
+        rust: &CallResult,
+        model: &CallResult,
+        ours: &CallResult,
+        faults: Vec<&'static str>,
+    ) -> Vec<String> {
+        let mut differs = named("the model's ", differing(rust, model));
+        differs.extend(named("", differing(rust, ours)));
+        differs.extend(named("", faults));
+        if ours.visits != model.visits {
+            differs.push("the journal is not the model's".to_string());
+        }
+        differs.extend(removal_fault(call, &self.before, rust, ours));
+        differs
     }
 }
 
@@ -132,7 +147,12 @@ fn named(whose: &str, names: Vec<&'static str>) -> Vec<String> {
 
 /// What the Rust's ranges alone say of the journal: its indexes rise, a removed rule has its id in a range that is held
 /// after the call, and a visited rule with its id in a range held before it is removed.
-fn removal_fault(call: &Call, before: &Before, rust: &Found, ours: &Found) -> Option<String> {
+fn removal_fault(
+    call: &Call,
+    before: &Before,
+    rust: &CallResult,
+    ours: &CallResult,
+) -> Option<String> {
     let is_in = |ranges: &[(u64, u64)], index: u64| {
         let is_rule = (index as usize) < call.rules.len();
         let id = is_rule.then(|| call.id_of(index as usize)).flatten();
@@ -143,8 +163,8 @@ fn removal_fault(call: &Call, before: &Before, rust: &Found, ours: &Found) -> Op
         })
     };
     let rises = ours.visits.windows(2).all(|two| two[0].0 < two[1].0);
-    let agrees = |&(index, verdict): &(u64, u64)| match verdict {
-        verdict::REMOVED => is_in(&rust.ranges, index),
+    let agrees = |&(index, verdict): &(u64, Verdict)| match verdict {
+        Verdict::Removed => is_in(&rust.ranges, index),
         _ => !is_in(&before.ranges, index),
     };
     let is_right = rises && ours.visits.iter().all(agrees);

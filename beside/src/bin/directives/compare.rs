@@ -78,10 +78,10 @@ pub fn expected(question: &Question) -> Expected {
     if name.len() > LONGEST || value.len() > LONGEST {
         return Expected::Refused(2);
     }
-    match (as_ascii(name), as_ascii(value)) {
-        (Some(name), Some(value)) => Expected::Directive(oracle::directive(name, value)),
-        _ => Expected::Refused(6),
+    if !name.is_ascii() || !value.is_ascii() {
+        return Expected::Refused(6);
     }
+    Expected::Directive(oracle::directive(name, value))
 }
 
 pub fn as_ascii(text: &[u8]) -> Option<&str> {

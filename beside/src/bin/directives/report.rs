@@ -1,7 +1,8 @@
 //! What a run reached, and differences as lines of the case format.
 
-use oracle::text::print_directive;
-use oracle::CtlDirective;
+use case_format::text::quoted;
+use case_format::Directive;
+use oracle::{directive_answer, CtlDirective};
 
 use crate::compare::{sides, Expected, Outcome};
 use crate::question::{Damage, Question};
@@ -172,28 +173,25 @@ fn form(directive: &CtlDirective) -> usize {
 /// A difference: the directive, what the Rust says and what our reader did.
 pub fn print_difference(question: &Question, expected: &Expected, answer: u64, found: &Outcome) {
     let Question { name, value, .. } = question;
-    println!("ctl {} {}", quoted(name), quoted(value));
+    let (name, value) = (name.clone(), value.clone());
+    println!("{}", Directive { name, value });
     println!(
-        "  lists of {} and {} entries",
+        "#   lists of {} and {} entries",
         question.starts, question.ends
     );
-    let mut line = Vec::new();
-    match expected {
-        Expected::Refused(_) => {}
-        Expected::Directive(directive) => {
-            print_directive(&mut line, directive).expect("a list of bytes takes all")
-        }
-    }
-    let line = String::from_utf8_lossy(&line);
-    println!("  Rust: answer {answer} {}", line.trim_end());
+    let said = match expected {
+        Expected::Refused(_) => String::new(),
+        Expected::Directive(directive) => format!(" {}", directive_answer(directive)),
+    };
+    println!("#   rust answer {answer}{said}");
     let record = found.record;
     println!(
-        "  ours: answer {} form {} value {}",
+        "#   ours answer {} form {} value {}",
         record.answer, record.form, record.value
     );
-    if let (3, Some((id, target))) = (record.form, sides(value, record.value)) {
+    if let (3, Some((id, target))) = (record.form, sides(&question.value, record.value)) {
         println!(
-            "    sides {} {}",
+            "#     sides {} {}",
             quoted(id.as_bytes()),
             quoted(target.as_bytes())
         );
@@ -211,18 +209,5 @@ fn print_changes(name: &str, found: &[u64], before: &[u64]) {
             line += &format!(" {i}:{found}");
         }
     }
-    println!("    {name} written{line}");
-}
-
-/// A TEXT of the case format.
-fn quoted(text: &[u8]) -> String {
-    let mut quoted = String::from("\"");
-    for &byte in text {
-        match byte {
-            b'"' | b'\\' => quoted.extend(['\\', char::from(byte)]),
-            0x20..=0x7E => quoted.push(char::from(byte)),
-            _ => quoted += &format!("\\x{byte:02X}"),
-        }
-    }
-    quoted + "\""
+    println!("#     {name} written{line}");
 }

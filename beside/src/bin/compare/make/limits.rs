@@ -1,7 +1,8 @@
 //! Cases at 01's limits.
 
-use beside::case::{kind, mode, outcome, Call, Case};
+use beside::case::{kind, outcome, Call, Case};
 use beside::random::Random;
+use case_format::Mode;
 use tivembo::{Action, Rule};
 
 use super::texts::Texts;
@@ -49,7 +50,7 @@ fn largest(random: &mut Random) -> Case {
     call.text = texts.text;
     call.text.resize(MOST_TEXT, b' ');
     Case {
-        mode: random.pick(&[mode::ON, mode::DETECTION_ONLY]),
+        mode: random.pick(&[Mode::On, Mode::DetectionOnly]),
         status: status(random),
         calls: vec![call],
         ..Case::default()
@@ -67,11 +68,11 @@ fn most_controls(random: &mut Random) -> Case {
     mood.rules = 8;
     let second = call_of(random, &mood);
     let mut entry = entry(random);
-    (entry.mode, entry.allowed, entry.stopped) = (0, false, false);
+    (entry.mode, entry.allowed, entry.stopped) = (None, false, false);
     let held = 0..MOST_RANGES as u64 / 2;
     entry.ranges = held.map(|at| (1_000 + 3 * at, 1_001 + 3 * at)).collect();
     Case {
-        mode: mode::ON,
+        mode: Mode::On,
         status: status(random),
         entry,
         calls: vec![first, second],

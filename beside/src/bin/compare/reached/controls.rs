@@ -1,7 +1,8 @@
 //! What controls set, and which ids ranges remove.
 
-use beside::case::{kind, mode};
+use beside::case::kind;
 use beside::model::trimmed;
+use case_format::Mode;
 use oracle::CtlDirective;
 
 use super::walked::Unit;
@@ -45,11 +46,11 @@ fn of_rule<'a>(
 fn modes(seen: &Seen, unit: &Unit, marks: &mut Marks) {
     let disruptive = seen.last_of(unit.starter(), kind::DENY..=kind::DROP);
     let would_stop = disruptive.is_some_and(|a| a.kind != kind::PASS && a.kind != kind::ALLOW);
-    let (was_on, is_on) = (unit.mode_before == mode::ON, unit.mode_after == mode::ON);
+    let (was_on, is_on) = (unit.mode_before == Mode::On, unit.mode_after == Mode::On);
     marks.set_if(would_stop && was_on && !is_on, F::ModeSpares);
     marks.set_if(would_stop && !was_on && is_on, F::ModeStops);
     let has_rest = unit.closing() + 1 < seen.call.rules.len();
-    marks.set_if(unit.mode_after == mode::OFF && has_rest, F::ModeOffEnds);
+    marks.set_if(unit.mode_after == Mode::Off && has_rest, F::ModeOffEnds);
     let mut set = Vec::new();
     for &member in &unit.members {
         for (_, directive) in of_rule(seen, member) {
@@ -82,11 +83,11 @@ fn directives(seen: &Seen, unit: &Unit, marks: &mut Marks) {
 fn settings(seen: &Seen, marks: &mut Marks) {
     let rust = seen.rust;
     for (set, first) in [
-        (rust.mode, F::SetOn),
-        (rust.access, F::AccessOn),
-        (rust.processor, F::Urlencoded),
+        (rust.mode.map(|mode| mode.number()), F::SetOn),
+        (rust.body_access.map(|on| u64::from(!on)), F::AccessOn),
+        (rust.body_processor.map(|it| it.number()), F::Urlencoded),
     ] {
-        if let Some(line) = set.checked_sub(1) {
+        if let Some(line) = set {
             marks.set_below(first, line as usize);
         }
     }

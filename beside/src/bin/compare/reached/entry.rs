@@ -1,6 +1,7 @@
 //! How a call is entered, how large it is and how it is answered.
 
-use beside::case::{mode, outcome};
+use beside::case::outcome;
+use case_format::{Answer, Mode};
 
 use super::{Feature as F, Marks, Seen};
 
@@ -20,10 +21,10 @@ pub fn mark(seen: &Seen, marks: &mut Marks) {
 
 fn held(seen: &Seen, marks: &mut Marks) {
     let (before, entry) = (seen.before, &seen.case.entry);
-    let in_force = before.mode.checked_sub(1).unwrap_or(seen.case.mode);
-    let overruled = seen.case.mode == mode::OFF && in_force != mode::OFF;
+    let in_force = before.mode.unwrap_or(seen.case.mode);
+    let overruled = seen.case.mode == Mode::Off && in_force != Mode::Off;
     marks.set_if(overruled, F::OffOverruled);
-    marks.set_if(in_force == mode::OFF, F::OffAtEntry);
+    marks.set_if(in_force == Mode::Off, F::OffAtEntry);
     marks.set_if(entry.allowed, F::Allowed);
     marks.set_if(entry.stopped, F::Stopped);
     if before.calls == 0 {
@@ -69,13 +70,10 @@ fn sizes(seen: &Seen, marks: &mut Marks) {
 
 fn answers(seen: &Seen, marks: &mut Marks) {
     let (rust, walked) = (seen.rust, &seen.walked);
-    marks.set(if rust.answer == 0 {
-        F::Answer0
-    } else {
-        F::Answer10
-    });
-    if rust.answer == 10 {
-        marks.set_if(rust.error == Some(0), F::ErrorFirst);
+    marks.set_if(rust.answer == Answer::Done, F::Answer0);
+    if let Answer::RuleError(index) = rust.answer {
+        marks.set(F::Answer10);
+        marks.set_if(index == 0, F::ErrorFirst);
         marks.set_if(!walked.units.is_empty(), F::ErrorAfterUnit);
         marks.set_if(walked.open_at_error > 0, F::ErrorInChain);
     }

@@ -1,7 +1,7 @@
 //! Disruptive actions in every mode, and interventions.
 
 use beside::case::kind;
-use beside::found::{Built, Stop};
+use case_format::{Intervention, Stop};
 
 use super::walked::Unit;
 use super::{Feature as F, Marks, Seen};
@@ -10,7 +10,7 @@ pub fn mark(seen: &Seen, marks: &mut Marks) {
     for unit in &seen.walked.units {
         disruptive(seen, unit, marks);
     }
-    if let (Stop::New(built), Some(unit)) = (&seen.rust.stop, seen.walked.units.last()) {
+    if let (Stop::New(built), Some(unit)) = (&seen.rust.intervention, seen.walked.units.last()) {
         ids(seen, built, unit, marks);
         metadata(seen, unit, marks);
         held(built, marks);
@@ -37,7 +37,7 @@ fn disruptive(seen: &Seen, unit: &Unit, marks: &mut Marks) {
     marks.set_if(last.is_none() && later, F::DisruptiveOfLaterMember);
 }
 
-fn ids(seen: &Seen, built: &Built, unit: &Unit, marks: &mut Marks) {
+fn ids(seen: &Seen, built: &Intervention, unit: &Unit, marks: &mut Marks) {
     let closing = seen.call.id_of(unit.closing());
     marks.set(match (closing, built.id) {
         (None, None) => F::StopIdsNone,
@@ -72,7 +72,7 @@ fn metadata(seen: &Seen, unit: &Unit, marks: &mut Marks) {
     marks.set_if(is_deny && status, F::StopStatusAction);
 }
 
-fn held(built: &Built, marks: &mut Marks) {
+fn held(built: &Intervention, marks: &mut Marks) {
     let present = [
         (built.log.is_some() && built.msg.is_some(), F::StopMsg),
         (built.logdata.is_some(), F::StopLogdata),
@@ -93,7 +93,7 @@ fn held(built: &Built, marks: &mut Marks) {
     marks.set_if(numbers.contains(&Some(255)), F::Stop255);
 }
 
-fn texts(built: &Built, marks: &mut Marks) {
+fn texts(built: &Intervention, marks: &mut Marks) {
     let texts = [
         &built.url,
         &built.msg,

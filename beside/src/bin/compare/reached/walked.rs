@@ -1,7 +1,7 @@
 //! The Rust's walk, made out from the rules that it evaluated.
 
-use beside::case::{kind, mode, verdict, Call, Case};
-use beside::found::{Found, Stop};
+use beside::case::{kind, Call, Case};
+use case_format::{Answer, CallResult, Mode, Stop, Verdict};
 use oracle::{CtlDirective, RuleEngineMode};
 
 use crate::sides::{Before, Directives};
@@ -10,9 +10,9 @@ use crate::sides::{Before, Directives};
 pub struct Unit {
     /// The starter first, the closing rule last.
     pub members: Vec<usize>,
-    pub mode_before: u64,
+    pub mode_before: Mode,
     /// The mode in force after its controls.
-    pub mode_after: u64,
+    pub mode_after: Mode,
     /// Whether the walk went on after it.
     pub went_on: bool,
 }
@@ -32,7 +32,7 @@ impl Unit {
 pub struct Walked {
     pub is_idle: bool,
     pub units: Vec<Unit>,
-    /// Rules that were passed as removed, and whether a chain was open: those whose turn it was for certain. Behind a flow
+    /// Rules that were passed as removed, and whether a chain was open: those whose turn it was for certain. After a flow
     /// action none are looked for.
     pub removed: Vec<(usize, bool)>,
     /// Missed rules, and how many members the chain then had that was open.
@@ -48,7 +48,7 @@ struct Walker<'a> {
     call: &'a Call,
     directives: &'a Directives,
     members: Vec<usize>,
-    mode: u64,
+    mode: Mode,
     walked: Walked,
 }
 
@@ -58,11 +58,11 @@ impl Walked {
         call: &Call,
         directives: &Directives,
         before: &Before,
-        rust: &Found,
+        rust: &CallResult,
     ) -> Self {
-        let mode = before.mode.checked_sub(1).unwrap_or(case.mode);
+        let mode = before.mode.unwrap_or(case.mode);
         let is_held = before.allowed || before.stopped;
-        if is_held || mode == mode::OFF || call.rules.is_empty() {
+        if is_held || mode == Mode::Off || call.rules.is_empty() {
             return Self {
                 is_idle: true,
                 ..Self::default()
@@ -81,23 +81,23 @@ impl Walked {
 }
 
 impl Walker<'_> {
-    fn walk(&mut self, rust: &Found) {
+    fn walk(&mut self, rust: &CallResult) {
         // The next index, where no flow action changed it.
         let mut next = Some(0);
         for &(index, verdict) in &rust.visits {
             let index = index as usize;
             self.pass_removed(next, index);
             next = match verdict {
-                verdict::MISSED => Some(self.missed(index)),
-                verdict::ERROR => None,
+                Verdict::Missed => Some(self.missed(index)),
+                Verdict::Error => None,
                 _ => self.matched(index),
             };
         }
-        if rust.error.is_some() {
+        if rust.answer != Answer::Done {
             self.walked.open_at_error = self.members.len();
             return;
         }
-        if rust.allowed || rust.stop != Stop::No || self.mode == mode::OFF {
+        if rust.allowed || rust.intervention != Stop::No || self.mode == Mode::Off {
             self.walked.units.last_mut().expect("a unit did it").went_on = false;
             return;
         }
@@ -160,9 +160,9 @@ impl Walker<'_> {
         {
             if let CtlDirective::RuleEngine(set) = directive {
                 self.mode = match set {
-                    RuleEngineMode::On => mode::ON,
-                    RuleEngineMode::DetectionOnly => mode::DETECTION_ONLY,
-                    RuleEngineMode::Off => mode::OFF,
+                    RuleEngineMode::On => Mode::On,
+                    RuleEngineMode::DetectionOnly => Mode::DetectionOnly,
+                    RuleEngineMode::Off => Mode::Off,
                 };
             }
         }

@@ -1,8 +1,9 @@
 //! Runs the calls of a case.
 
-use tivembo::{Phase, Refusal, RuleSet, RuleSets, Target, Transaction, MOST_RANGES};
+use case_format::{Call, Case};
+use tivembo::{Phase, Refusal, RuleSet, RuleSets, Transaction, MOST_RANGES};
 
-use crate::case::{Call, Case};
+use crate::lent;
 
 /// What one call gave, with what it was given.
 pub struct Walked<'a> {
@@ -34,31 +35,32 @@ impl Walked<'_> {
         self.transaction.controls().ranges().collect()
     }
 
-    /// The targets that the call added.
-    pub fn targets(&self) -> Vec<Target<'_>> {
+    /// The targets that the call added: rule id and target.
+    pub fn targets(&self) -> Vec<(Vec<u8>, Vec<u8>)> {
         let Ok(phase) = &self.result else {
             return Vec::new();
         };
         let texts = self.texts();
-        let found = phase.targets().map(|place| texts.target(place));
-        found
-            .map(|found| found.expect("the call's rules have it"))
-            .collect()
+        let target = |place| {
+            let found = texts.target(place).expect("the call's rules have it");
+            (found.rule_id.to_vec(), found.target.to_vec())
+        };
+        phase.targets().map(target).collect()
     }
 }
 
 /// Runs the calls of a case in order, and hands each to `print`.
 pub fn run_case<E>(case: &Case, mut print: impl FnMut(&Walked) -> Result<(), E>) -> Result<(), E> {
-    let mut transaction = case.entry.transaction();
+    let mut transaction = lent::transaction(&case.entry);
+    let mode = lent::mode(case.mode);
     for call in &case.calls {
-        let rules = call.rule_set();
+        let rules = lent::rule_set(call);
         let (allowed, held) = (
             transaction.is_allowed(),
             transaction.intervention().is_some(),
         );
-        let outcomes = call.outcomes();
-        let result =
-            transaction.run_phase(&rules, call.phase, case.mode, case.block_status, &outcomes);
+        let outcomes = lent::outcomes(call);
+        let result = transaction.run_phase(&rules, call.phase, mode, case.block_status, &outcomes);
         let result = result.map(|phase| (phase, phase.transaction()));
         let (result, transaction) = match result {
             Ok((phase, transaction)) => (Ok(phase), transaction),

@@ -1,40 +1,57 @@
-//! Reads cases and directive questions from a text.
+//! Reads a text item by item.
 
+use std::fmt;
 use std::io::BufRead;
 
-use tivembo::Act;
-
-use crate::case::{Call, Case, OwnAct};
+use crate::case::{Case, Directive, Item};
+use crate::domain::{Anything, Domain};
 use crate::draft::{Draft, Step};
 use crate::line::{Line, Reason};
 
-/// One thing that a text asks for.
-#[derive(Debug)]
-pub enum Item {
-    Case(Case),
-    /// A `ctl` line outside a case: directive and value.
-    Directive(Vec<u8>, Vec<u8>),
-}
-
-/// The line that can't be read, and why.
-#[derive(Debug)]
+/// The line that can't be read, and why. It prints as the format says.
+#[derive(Debug, Clone, PartialEq, Eq)]
 pub struct ReadError {
+    /// Counted from 1.
     pub line: usize,
+    /// In words.
     pub reason: Reason,
 }
 
-/// Reads a text item by item.
+impl fmt::Display for ReadError {
+    fn fmt(&self, f: &mut fmt::Formatter<'_>) -> fmt::Result {
+        write!(f, "error line {}: {}", self.line, self.reason)
+    }
+}
+
+impl std::error::Error for ReadError {}
+
+/// Reads a text item by item. After an error nothing more is read.
+///
+/// ```
+/// use case_format::Reader;
+/// let mut reader = Reader::new(&b"# a comment\ncase a_b\n"[..]);
+/// let error = reader.item().unwrap_err();
+/// assert_eq!(error.to_string(), "error line 2: a name has letters, digits, '-' and '.' only");
+/// ```
 pub struct Reader<R> {
     input: R,
+    domain: Box<dyn Domain>,
     /// The line read last, without blanks at its start and without its end.
     line: Vec<u8>,
     number: usize,
 }
 
 impl<R: BufRead> Reader<R> {
+    /// A reader that takes all that the format can say.
     pub fn new(input: R) -> Self {
+        Self::within(input, Anything)
+    }
+
+    /// A reader that takes what a program takes.
+    pub fn within(input: R, domain: impl Domain + 'static) -> Self {
         Self {
             input,
+            domain: Box::new(domain),
             line: Vec::new(),
             number: 0,
         }
@@ -45,9 +62,9 @@ impl<R: BufRead> Reader<R> {
         if !self.next_line()? {
             return Ok(None);
         }
-        let begun = begin(Line::new(&self.line));
+        let begun = begin(Line::new(&self.line), &*self.domain);
         match begun.map_err(|reason| self.error(reason))? {
-            Begun::Directive(name, value) => Ok(Some(Item::Directive(name, value))),
+            Begun::Whole(item) => Ok(Some(item)),
             Begun::Case(name) => Ok(Some(Item::Case(self.case(name)?))),
         }
     }
@@ -77,8 +94,8 @@ impl<R: BufRead> Reader<R> {
     fn case(&mut self, name: String) -> Result<Case, ReadError> {
         let mut draft = Draft::new(name);
         while self.next_line()? {
-            let step = draft.take(Line::new(&self.line));
-            if step.map_err(|reason| self.error(reason))? == Step::End {
+            let line = Line::new(&self.line);
+            if draft.take(line, self.number, &*self.domain)? == Step::End {
                 return draft.finish().map_err(|reason| self.error(reason));
             }
         }
@@ -93,16 +110,18 @@ impl<R: BufRead> Reader<R> {
     }
 }
 
-/// What a line outside a case begins.
+/// What a line outside a case is.
 enum Begun {
+    /// The first line of a case with this name.
     Case(String),
-    Directive(Vec<u8>, Vec<u8>),
+    /// All of an item.
+    Whole(Item),
 }
 
-fn begin(mut line: Line) -> Result<Begun, Reason> {
+fn begin(mut line: Line, domain: &dyn Domain) -> Result<Begun, Reason> {
     let begun = match line.word()? {
         "case" => Begun::Case(name(line.word()?)?),
-        "ctl" => Begun::Directive(line.text()?, line.text()?),
+        "ctl" => Begun::Whole(Item::Directive(directive(&mut line, domain)?)),
         other => return Err(format!("{other} begins no line outside a case")),
     };
     line.end()?;
@@ -118,29 +137,12 @@ fn name(word: &str) -> Result<String, Reason> {
     }
 }
 
-/// An action line: the kind decides what follows its name.
-pub fn action(word: &str, line: &mut Line) -> Result<OwnAct, Reason> {
-    let kind = Act::kind_named(word).ok_or(format!("{word} begins no line of a call"))?;
-    let mut act = OwnAct {
-        kind,
-        ..OwnAct::default()
+fn directive(line: &mut Line, domain: &dyn Domain) -> Result<Directive, Reason> {
+    let directive = Directive {
+        name: line.text()?,
+        value: line.text()?,
     };
-    match act.act() {
-        Act::Skip(_) | Act::Id(_) | Act::Status(_) => act.number = line.number()?,
-        Act::Severity(_) | Act::Maturity(_) | Act::Accuracy(_) => act.number = line.number()?,
-        Act::Redirect(_) | Act::SkipAfter(_) => act.text = line.text()?,
-        Act::Msg(_) | Act::LogData(_) | Act::Rev(_) | Act::Ver(_) => act.text = line.text()?,
-        Act::Ctl(..) => (act.text, act.value) = (line.text()?, line.text()?),
-        _ => {}
-    }
-    Ok(act)
-}
-
-/// A call without any rules.
-pub fn call(line: &mut Line) -> Result<Call, Reason> {
-    Ok(Call {
-        phase: line.number()?,
-        rules: Vec::new(),
-        markers: Vec::new(),
-    })
+    domain.text(&directive.name)?;
+    domain.text(&directive.value)?;
+    Ok(directive)
 }

@@ -1,8 +1,9 @@
 //! What happened at each rule of a call, in words. The verdicts are the journal's; the words say what follows from them.
 
+use case_format::text::range;
 use tivembo::{Act, Answer, Mode, Phase, Records, Verdict};
 
-use crate::results::range;
+use crate::lent;
 use crate::run::Walked;
 use crate::show::plain;
 
@@ -95,7 +96,12 @@ impl Story<'_> {
     fn removed(&mut self, index: usize, link: bool) -> String {
         let id = self.walked.call.rules[index].id;
         let has = |range: &(u64, u64)| id.is_some_and(|id| range.0 <= id && id <= range.1);
-        let range = self.walked.ranges().into_iter().find(has).map(range);
+        let range = self
+            .walked
+            .ranges()
+            .iter()
+            .find(|held| has(held))
+            .map(range);
         let chain = match (link, self.open.is_empty()) {
             (true, _) => self.broken(index, link),
             (false, true) => String::new(),
@@ -160,12 +166,13 @@ impl Story<'_> {
         let after = closing as u64 + 1;
         let markers = self.walked.call.markers.iter().rev();
         let name_of = plain(name);
-        match markers.into_iter().find(|marker| marker.0 == name) {
+        let named = markers.into_iter().find(|marker| marker.name == name);
+        match named.map(|marker| marker.position) {
             None => format!("no marker {name_of}: the rest is passed"),
-            Some((_, position)) if *position > after => {
+            Some(position) if position > after => {
                 format!("jump to marker {name_of} at {position}")
             }
-            Some((_, position)) => {
+            Some(position) => {
                 format!("no usable marker: {name_of} at {position} is not greater than {after}")
             }
         }
@@ -189,7 +196,7 @@ impl Story<'_> {
         if self.phase.allows() {
             return Some(format!("allow at {index}"));
         }
-        let off = controls.engine_mode(self.walked.case.mode) == Ok(Mode::Off);
+        let off = controls.engine_mode(lent::mode(self.walked.case.mode)) == Ok(Mode::Off);
         off.then(|| "mode Off".to_string())
     }
 }

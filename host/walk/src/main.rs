@@ -3,10 +3,7 @@
 //! Walks the cases in FILE through the proved phase call and prints each walk for people to read, or with --results in
 //! the case format. `-` is the standard input. A line that can't be read ends it with exit status 1.
 
-mod case;
-mod draft;
-mod line;
-mod read;
+mod lent;
 mod results;
 mod run;
 mod show;
@@ -17,8 +14,7 @@ use std::fs::File;
 use std::io::{stdin, stdout, BufRead, BufReader, BufWriter, ErrorKind, Write};
 use std::process::ExitCode;
 
-use case::Case;
-use read::{Item, Reader};
+use case_format::{Case, CaseResult, Directive, Item, Reader};
 use tivembo::read_directive;
 
 /// After so many cases, and before the next one, a line of progress is printed.
@@ -80,10 +76,8 @@ fn walk_all(out: &mut impl Write, input: Box<dyn BufRead>, results: bool) -> Res
     let mut cases = 0;
     let mut was_case = None;
     loop {
-        let item = reader.item().map_err(|error| {
-            Ended::Error(format!("error line {}: {}", error.line, error.reason))
-        })?;
-        let Some(item) = item else {
+        let item = reader.item();
+        let Some(item) = item.map_err(|error| Ended::Error(error.to_string()))? else {
             return Ok(());
         };
         let is_case = matches!(item, Item::Case(_));
@@ -93,7 +87,7 @@ fn walk_all(out: &mut impl Write, input: Box<dyn BufRead>, results: bool) -> Res
         }
         was_case = Some(is_case);
         match item {
-            Item::Directive(name, value) => print_directive(out, &name, &value, results)?,
+            Item::Directive(directive) => print_directive(out, &directive, results)?,
             Item::Case(case) => {
                 tell_progress(cases);
                 cases += 1;
@@ -111,24 +105,26 @@ fn tell_progress(cases: u64) {
 
 fn print_directive(
     out: &mut impl Write,
-    name: &[u8],
-    value: &[u8],
+    directive: &Directive,
     results: bool,
 ) -> Result<(), Ended> {
-    let read = read_directive(name, value);
+    let read = read_directive(&directive.name, &directive.value);
     if results {
         writeln!(out, "{}", results::directive(&read))?;
     } else {
-        show::print_directive(out, (name, value), &read)?;
+        show::print_directive(out, directive, &read)?;
     }
     Ok(())
 }
 
 fn print_case(out: &mut impl Write, case: &Case, results: bool) -> Result<(), Ended> {
     if results {
-        writeln!(out, "case {}", case.name)?;
-        run::run_case(case, |walked| results::print_call(out, walked))?;
-        writeln!(out, "end")?;
+        let (name, mut calls) = (case.name.clone(), Vec::new());
+        run::run_case(case, |walked| {
+            calls.push(results::result(walked));
+            Ok::<(), Ended>(())
+        })?;
+        writeln!(out, "{}", CaseResult { name, calls })?;
         return Ok(());
     }
     let mut is_later = false;

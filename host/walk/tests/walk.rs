@@ -6,7 +6,7 @@ use std::process::{Command, Output, Stdio};
 
 fn cases(name: &str) -> PathBuf {
     Path::new(env!("CARGO_MANIFEST_DIR"))
-        .join("../cases")
+        .join("../../cases")
         .join(name)
 }
 
@@ -166,70 +166,17 @@ fn fails(text: &str, error: &str) {
     }
 }
 
+/// Every reason is tested in case-format; here that the program says it, and takes no less than the format.
 #[test]
 fn lines_that_cannot_be_read() {
     let head = "case X\nmode On\nblock-status 403\n";
     fails("# x\n\ncall 1\n", "3: call begins no line outside a case");
-    fails(
-        "case a_b\n",
-        "1: a name has letters, digits, '-' and '.' only",
-    );
-    fails("case\n", "1: a word is missing at the end");
+    fails("ctl \"a\"\n", "1: a text is missing at the end");
     fails("case X\nmode on\n", "2: a mode is On, DetectionOnly or Off");
-    fails("case X\nmode On\nmode On\n", "3: a case says this once");
-    fails(
-        "case X\ncall 1\n",
-        "2: mode and block-status come before the first call",
-    );
-    fails(
-        &format!("{head}end\n"),
-        "4: a case has a mode, a block-status and a call",
-    );
     fails(&format!("{head}call 1\n"), "4: the text ends inside a case");
-    fails(
-        &format!("{head}call 1\n  deny\n"),
-        "5: an action comes before the first rule",
-    );
-    fails(&format!("{head}call x\n"), "4: x is no number");
     let above = "18446744073709551616";
     let reason = format!("4: {above} is above 18446744073709551615");
     fails(&format!("{head}call {above}\n"), &reason);
-}
-
-#[test]
-fn rules_and_texts_that_cannot_be_read() {
-    let rule = |line: &str| format!("case X\nmode On\nblock-status 403\ncall 1\nrule {line}\n");
-    let outcome = "an outcome is missed, matched, matched-var or error";
-    fails(&rule("1 maybe"), &format!("5: {outcome}"));
-    fails(&rule("1 link link"), &format!("5: {outcome}"));
-    fails(
-        &rule("1 missed x"),
-        "5: the line goes on where it should end",
-    );
-    fails(
-        &rule("1  missed"),
-        "5: one blank stands between two words, and none at the end",
-    );
-    fails(&rule("1 missed\nfly"), "6: fly begins no line of a call");
-    fails("ctl \"a\n", "1: a text ends with \"");
-    fails("ctl \"a\"\n", "1: a text is missing at the end");
-    fails("ctl a \"b\"\n", "1: a text begins with \"");
-    fails(
-        "ctl \"\\n\" \"b\"\n",
-        "1: a backslash begins \\\", \\\\ or \\xHH",
-    );
-    fails(
-        "ctl \"\\xg0\" \"b\"\n",
-        "1: \\x stands before two hexadecimal digits",
-    );
-    fails(
-        "ctl \"a\"\"b\"\n",
-        "1: a blank or the line's end follows a text",
-    );
-    fails(
-        "ctl \"a\" \"b\" \n",
-        "1: the line goes on where it should end",
-    );
 }
 
 #[test]

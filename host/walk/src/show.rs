@@ -2,10 +2,13 @@
 
 use std::io::{Result, Write};
 
-use tivembo::{Act, Answer, Directive, Intervention, Phase, Refusal};
+use case_format::text::{data, on_off, quoted, range, target};
+use case_format::{
+    Action, Answer, BodyProcessor, CallResult, Directive, Entry, Intervention, Kind, Mode,
+    Operands, Rule, Stop,
+};
+use tivembo::{Phase, Refusal};
 
-use crate::case::{Entry, Rule};
-use crate::line::quoted;
 use crate::results;
 use crate::run::Walked;
 use crate::story::story;
@@ -19,13 +22,14 @@ const LISTED: usize = 8;
 
 /// Prints a call's walk.
 pub fn print_call(out: &mut impl Write, walked: &Walked) -> Result<()> {
+    let found = results::result(walked);
     print_head(out, walked)?;
     match &walked.result {
         Ok(phase) => {
             print_rules(out, walked, phase)?;
-            let ids = phase.ids().iter().map(u64::to_string).collect();
+            let ids = found.ids.iter().map(u64::to_string).collect();
             print_field(out, "ids", &or_dash(ids, " "))?;
-            let data = phase.data().map(results::data).collect();
+            let data = found.data.iter().map(data).collect();
             print_field(out, "data", &or_dash(data, " "))?;
         }
         Err(refusal) => {
@@ -34,21 +38,25 @@ pub fn print_call(out: &mut impl Write, walked: &Walked) -> Result<()> {
             print_field(out, "answer", &line)?;
         }
     }
-    print_field(out, "controls", &controls(walked))?;
-    print_field(out, "request", &request(walked))
+    print_field(out, "controls", &controls(walked, &found))?;
+    print_field(out, "request", &request(walked, &found))
 }
 
 /// Prints what the directive reader said.
 pub fn print_directive(
     out: &mut impl Write,
-    (name, value): (&[u8], &[u8]),
-    read: &std::result::Result<Directive, Refusal>,
+    directive: &Directive,
+    read: &std::result::Result<tivembo::Directive, Refusal>,
 ) -> Result<()> {
     let said = match read {
-        Ok(_) => results::directive(read),
+        Ok(_) => results::directive(read).to_string(),
         Err(refusal) => format!("refused with {}: {refusal}", refusal.number()),
     };
-    writeln!(out, "{}  {said}", setting(name, value))
+    writeln!(
+        out,
+        "{}  {said}",
+        setting(&directive.name, &directive.value)
+    )
 }
 
 /// The case, the phase, the mode, the markers, and what the first call finds.
@@ -59,8 +67,13 @@ fn print_head(out: &mut impl Write, walked: &Walked) -> Result<()> {
         "{:<3}  phase {}, mode {}",
         case.name, call.phase, case.mode
     )?;
-    for (name, position) in &call.markers {
-        write!(out, "; marker {} at {position}", plain(name))?;
+    for marker in &call.markers {
+        write!(
+            out,
+            "; marker {} at {}",
+            plain(&marker.name),
+            marker.position
+        )?;
     }
     let held = entry(&case.entry);
     if std::ptr::eq(*call, &case.calls[0]) && !held.is_empty() {
@@ -76,16 +89,25 @@ fn print_head(out: &mut impl Write, walked: &Walked) -> Result<()> {
 
 /// What the transaction holds before a case's first call.
 fn entry(entry: &Entry) -> Vec<String> {
-    let mode = entry.mode.map(|mode| format!("mode {mode}"));
-    let access = entry.body_access.map(results::on_off);
-    let access = access.map(|access| format!("body access {access}"));
-    let processor = entry.body_processor;
-    let processor = processor.map(|name| format!("body processor {name}"));
+    let settings = settings(entry.mode, entry.body_access, entry.body_processor);
     let ranges = (!entry.ranges.is_empty()).then(|| ranges(&entry.ranges));
     let allowed = entry.allowed.then(|| "allowed".to_string());
     let stopped = entry.stopped.then(|| "stopped".to_string());
-    let all = [mode, access, processor, ranges, allowed, stopped];
-    all.into_iter().flatten().collect()
+    let rest = [ranges, allowed, stopped];
+    settings.into_iter().chain(rest).flatten().collect()
+}
+
+/// What controls have set, each in words.
+fn settings(
+    mode: Option<Mode>,
+    access: Option<bool>,
+    processor: Option<BodyProcessor>,
+) -> [Option<String>; 3] {
+    [
+        mode.map(|mode| format!("mode {mode}")),
+        access.map(|on| format!("body access {}", on_off(on))),
+        processor.map(|name| format!("body processor {name}")),
+    ]
 }
 
 fn print_rules(out: &mut impl Write, walked: &Walked, phase: &Phase) -> Result<()> {
@@ -116,9 +138,9 @@ fn rule_name(rule: &Rule) -> String {
 
 /// A rule's actions, the id action left out where it is the rule's id.
 fn rule_actions(rule: &Rule) -> String {
-    let acts = rule.actions.iter().map(|own| own.act());
-    let told = acts.filter(|act| rule.id.is_none_or(|id| *act != Act::Id(id)));
-    let actions = told.map(|act| action(&act)).collect::<Vec<_>>().join(", ");
+    let is_own_id = |it: &&Action| it.kind() == Kind::Id && rule.id == Some(it.number());
+    let told = rule.actions.iter().filter(|action| !is_own_id(action));
+    let actions = told.map(action).collect::<Vec<_>>().join(", ");
     match (rule.link, actions.is_empty()) {
         (true, false) => format!("link {actions}"),
         (true, true) => "link".to_string(),
@@ -126,18 +148,13 @@ fn rule_actions(rule: &Rule) -> String {
     }
 }
 
-fn action(act: &Act) -> String {
-    let (_, number, text, _) = act.fields();
-    let name = act.name();
-    match *act {
-        Act::Ctl(name, value) => setting(name, value),
-        Act::Skip(_) | Act::Id(_) | Act::Status(_) => format!("{name} {number}"),
-        Act::Severity(_) | Act::Maturity(_) | Act::Accuracy(_) => format!("{name} {number}"),
-        Act::Redirect(_) | Act::SkipAfter(_) => format!("{name} {}", plain(text)),
-        Act::Msg(_) | Act::LogData(_) | Act::Rev(_) | Act::Ver(_) => {
-            format!("{name} {}", plain(text))
-        }
-        _ => name.to_string(),
+fn action(action: &Action) -> String {
+    let name = action.kind().word();
+    match action.kind().operands() {
+        Operands::Nothing => name.to_string(),
+        Operands::Number => format!("{name} {}", action.number()),
+        Operands::Text => format!("{name} {}", plain(action.text())),
+        Operands::Texts => setting(action.text(), action.value()),
     }
 }
 
@@ -150,22 +167,16 @@ fn print_field(out: &mut impl Write, name: &str, value: &str) -> Result<()> {
 }
 
 /// The controls after the call.
-fn controls(walked: &Walked) -> String {
-    let controls = walked.transaction.controls();
-    let mode = controls.set_mode().map(|mode| format!("mode {mode}"));
-    let access = controls.set_body_access().map(results::on_off);
-    let access = access.map(|access| format!("body access {access}"));
-    let processor = controls.set_body_processor();
-    let processor = processor.map(|name| format!("body processor {name}"));
-    let held = walked.ranges();
-    let ranges = (!held.is_empty()).then(|| ranges(&held));
-    let parts = [mode, access, processor, ranges, targets(walked)];
-    or_dash(parts.into_iter().flatten().collect(), "; ")
+fn controls(walked: &Walked, found: &CallResult) -> String {
+    let settings = settings(found.mode, found.body_access, found.body_processor);
+    let ranges = (!found.ranges.is_empty()).then(|| ranges(&found.ranges));
+    let rest = [ranges, targets(walked, found)];
+    or_dash(settings.into_iter().chain(rest).flatten().collect(), "; ")
 }
 
 /// The targets that the call added, and how many were held before.
-fn targets(walked: &Walked) -> Option<String> {
-    let added: Vec<String> = walked.targets().iter().map(results::target).collect();
+fn targets(walked: &Walked, found: &CallResult) -> Option<String> {
+    let added: Vec<String> = found.targets.iter().map(target).collect();
     let all = walked.transaction.record().controls.targets as usize;
     let before = match all - added.len() {
         0 => None,
@@ -178,12 +189,7 @@ fn targets(walked: &Walked) -> Option<String> {
 }
 
 fn ranges(ranges: &[(u64, u64)]) -> String {
-    let listed: Vec<String> = ranges
-        .iter()
-        .take(LISTED)
-        .copied()
-        .map(results::range)
-        .collect();
+    let listed: Vec<String> = ranges.iter().take(LISTED).map(range).collect();
     let (word, listed) = (
         if ranges.len() == 1 { "range" } else { "ranges" },
         listed.join(" "),
@@ -195,44 +201,45 @@ fn ranges(ranges: &[(u64, u64)]) -> String {
 }
 
 /// What becomes of the request.
-fn request(walked: &Walked) -> String {
+fn request(walked: &Walked, found: &CallResult) -> String {
     if walked.held {
         return "stopped before this call".to_string();
     }
     if walked.allowed {
         return "allowed before this call".to_string();
     }
-    let Ok(phase) = &walked.result else {
-        return "goes on".to_string();
-    };
-    if let Some(stop) = phase.intervention() {
-        return stopped(walked, &stop);
-    }
-    match phase.answer() {
-        Answer::RuleError(index) => format!("rule error at {index}; what was closed before stands"),
-        Answer::CarriedThrough if phase.allows() => "allowed".to_string(),
-        Answer::CarriedThrough => "goes on".to_string(),
+    match (&found.intervention, found.answer) {
+        (Stop::New(stop), _) => stopped(stop),
+        (_, Answer::RuleError(index)) => {
+            format!("rule error at {index}; what was closed before stands")
+        }
+        (_, Answer::Done) if found.allowed => "allowed".to_string(),
+        _ => "goes on".to_string(),
     }
 }
 
-fn stopped(walked: &Walked, stop: &Intervention) -> String {
-    let stop = stop
-        .with_texts(&walked.texts())
-        .expect("the call's rules have it");
-    let ids = or_dash(stop.ids().map(|id| id.to_string()).collect(), " ");
+fn stopped(stop: &Intervention) -> String {
+    let ids = or_dash(stop.ids.iter().map(u64::to_string).collect(), " ");
     let mut parts = vec![format!("stopped, status {}, ids {ids}", stop.status)];
     parts.extend(stop.drop.then(|| "connection dropped".to_string()));
-    let text = |name: &str, text: Option<&[u8]>| text.map(|text| format!("{name} {}", plain(text)));
-    let number = |name: &str, value: Option<u64>| value.map(|value| format!("{name} {value}"));
-    let metadata = &stop.metadata;
-    parts.extend(text("to", stop.url));
-    parts.extend(text("msg", metadata.msg));
-    parts.extend(text("logdata", metadata.logdata));
-    parts.extend(text("rev", metadata.rev));
-    parts.extend(text("ver", metadata.ver));
-    parts.extend(number("severity", metadata.severity));
-    parts.extend(number("maturity", metadata.maturity));
-    parts.extend(number("accuracy", metadata.accuracy));
+    let texts = [
+        ("to", &stop.url),
+        ("msg", &stop.msg),
+        ("logdata", &stop.logdata),
+        ("rev", &stop.rev),
+        ("ver", &stop.ver),
+    ];
+    for (name, text) in texts {
+        parts.extend(text.as_ref().map(|text| format!("{name} {}", plain(text))));
+    }
+    let numbers = [
+        ("severity", stop.severity),
+        ("maturity", stop.maturity),
+        ("accuracy", stop.accuracy),
+    ];
+    for (name, number) in numbers {
+        parts.extend(number.map(|number| format!("{name} {number}")));
+    }
     parts.join(", ")
 }
 
