@@ -114,57 +114,78 @@ TIVEMBO_ASSERT(sizeof(bool) == 1);
 /* A rule's record. `present` is 1 where the rule has an id and 0 where it has none, `link` is `is_chain`, and its
    actions are the `count` from `first` on. */
 typedef struct TivemboRule {
+    /* 1 where it has an id, else 0. */
     uint64_t present;
     uint64_t id;
+    /* 1 where it is a link, else 0. */
     uint64_t link;
+    /* Its first action. */
     uint64_t first;
+    /* How many actions it has. */
     uint64_t count;
 } TivemboRule;
 TIVEMBO_ASSERT(sizeof(TivemboRule) == 40);
 
 /* A part of a lent text. */
 typedef struct TivemboPart {
+    /* Its first byte. */
     uint64_t start;
+    /* How many bytes it has. */
     uint64_t len;
 } TivemboPart;
 TIVEMBO_ASSERT(sizeof(TivemboPart) == 16);
 
 /* An action's record: its kind, its number, and two parts of the lent text. */
 typedef struct TivemboAction {
+    /* 01's number of the kind. */
     uint64_t kind;
+    /* The number of a kind that has one. */
     uint64_t number;
+    /* The text of a kind that has one, and the directive of a ctl. */
     TivemboPart text;
+    /* The value of a ctl. */
     TivemboPart value;
 } TivemboAction;
 TIVEMBO_ASSERT(sizeof(TivemboAction) == 48);
 
 /* A marker's record: its name, and the number of the phase's rules before it. */
 typedef struct TivemboMarker {
+    /* Where its name stands. */
     TivemboPart name;
+    /* The number of the phase's rules before it. */
     uint64_t position;
 } TivemboMarker;
 TIVEMBO_ASSERT(sizeof(TivemboMarker) == 24);
 
 /* An entry of the list of matched data. `present` is 1 where it has an id. */
 typedef struct TivemboDataEntry {
+    /* 1 where it has an id, else 0. */
     uint64_t present;
+    /* The id, or 0. */
     uint64_t id;
     uint64_t phase;
+    /* The index of the rule that matched with a variable. */
     uint64_t index;
 } TivemboDataEntry;
 TIVEMBO_ASSERT(sizeof(TivemboDataEntry) == 32);
 
 /* An entry of the journal: a visited rule's index and the number of the verdict. */
 typedef struct TivemboJournalEntry {
+    /* The rule's index. */
     uint64_t index;
+    /* 0 missed, 1 matched, 2 removed, 3 error. */
     uint64_t verdict;
 } TivemboJournalEntry;
 TIVEMBO_ASSERT(sizeof(TivemboJournalEntry) == 16);
 
 /* What the reader answers, the number of the directive's form, and its value. */
 typedef struct TivemboReadRecord {
+    /* 0 or a refusal's number. */
     uint64_t answer;
+    /* 0 unsupported, 1 ruleEngine, 2 ruleRemoveById, 3 ruleRemoveTargetById, 4 requestBodyAccess, 5
+       requestBodyProcessor. */
     uint64_t form;
+    /* The number of a mode, an access or a processor, how many ranges, or where a target is cut. */
     uint64_t value;
 } TivemboReadRecord;
 TIVEMBO_ASSERT(sizeof(TivemboReadRecord) == 24);
@@ -172,41 +193,57 @@ TIVEMBO_ASSERT(sizeof(TivemboReadRecord) == 24);
 /* What the question answers: 0, or the number of a refusal; 1 and the position where there is a marker of the name,
    else twice 0. */
 typedef struct TivemboHostMarker {
+    /* 0 or a refusal's number. */
     uint64_t answer;
+    /* 1 where there is a marker of the name, else 0. */
     uint64_t present;
+    /* The position of the latest such marker, else 0. */
     uint64_t position;
 } TivemboHostMarker;
 TIVEMBO_ASSERT(sizeof(TivemboHostMarker) == 24);
 
 /* The settings by number, 0 where one is not set, and the arrays with how many of their places are in use. */
 typedef struct TivemboHostControls {
+    /* 0 not set, 1 On, 2 DetectionOnly, 3 Off. */
     uint64_t mode;
+    /* 0 not set, 1 On, 2 Off. */
     uint64_t access;
+    /* 0 not set, 1 URLENCODED, 2 MULTIPART, 3 JSON, 4 XML. */
     uint64_t processor;
+    /* How many ranges are held. */
     uint64_t ranges;
+    /* How many targets are held. */
     uint64_t targets;
+    /* Where the ranges start. */
     uint64_t starts[TIVEMBO_LIMIT_RANGES];
+    /* Where the ranges end; both ends are removed. */
     uint64_t ends[TIVEMBO_LIMIT_RANGES];
+    /* The phases of the targets' places. */
     uint64_t phases[TIVEMBO_LIMIT_TARGETS];
+    /* The positions of the targets' places. */
     uint64_t positions[TIVEMBO_LIMIT_TARGETS];
 } TivemboHostControls;
 TIVEMBO_ASSERT(sizeof(TivemboHostControls) == 5160);
 
 /* A place or none. */
 typedef struct TivemboHostPlace {
+    /* 1 where there is a place, else 0. */
     uint64_t present;
     uint64_t phase;
+    /* In that phase's whole action list. */
     uint64_t position;
 } TivemboHostPlace;
 TIVEMBO_ASSERT(sizeof(TivemboHostPlace) == 24);
 
 /* A number or none: `present` is 1 or 0. */
 typedef struct TivemboHostNumber {
+    /* 1 where there is a number, else 0. */
     uint64_t present;
     uint64_t value;
 } TivemboHostNumber;
 TIVEMBO_ASSERT(sizeof(TivemboHostNumber) == 16);
 
+/* The metadata of the rule that started the unit: the last action of each kind. */
 typedef struct TivemboHostMetadata {
     TivemboHostNumber id;
     TivemboHostPlace msg;
@@ -221,53 +258,95 @@ TIVEMBO_ASSERT(sizeof(TivemboHostMetadata) == 160);
 
 /* An intervention or none. */
 typedef struct TivemboHostIntervention {
+    /* 1 where there is an intervention, else 0. */
     uint64_t present;
     uint64_t status;
+    /* Where a redirect leads. */
     TivemboHostPlace url;
+    /* The log text, the starter's msg. */
     TivemboHostPlace log;
+    /* The closing rule's id. */
     TivemboHostNumber closing;
+    /* The starter's metadata id, where it is another. */
     TivemboHostNumber starter;
+    /* The phase in which it came about. */
     uint64_t phase;
+    /* 1 where the connection is dropped, else 0. */
     uint64_t drop;
+    /* The starter's metadata. */
     TivemboHostMetadata metadata;
 } TivemboHostIntervention;
 TIVEMBO_ASSERT(sizeof(TivemboHostIntervention) == 272);
 
+/* A transaction as a host lends it. */
 typedef struct TivemboHostTransaction {
+    /* What directives have set. */
     TivemboHostControls controls;
+    /* 1 where the request is allowed, else 0. */
     uint64_t allowed;
+    /* What stops the request. */
     TivemboHostIntervention intervention;
+    /* How many matched ids are in use. */
     uint64_t ids;
+    /* How many data entries are in use. */
     uint64_t entries;
 } TivemboHostTransaction;
 TIVEMBO_ASSERT(sizeof(TivemboHostTransaction) == 5456);
 
+/* The numbers that a call is given: the phase, the rule set's mode, and the caller's default status, which a block
+   has. */
+typedef struct TivemboCallSettings {
+    uint64_t phase;
+    uint64_t mode;
+    uint64_t default_status;
+} TivemboCallSettings;
+TIVEMBO_ASSERT(sizeof(TivemboCallSettings) == 24);
+
+/* What a phase tells besides: how many of its visits found each verdict. */
+typedef struct TivemboReport {
+    uint64_t missed;
+    uint64_t matched;
+    uint64_t removed;
+    uint64_t errors;
+} TivemboReport;
+TIVEMBO_ASSERT(sizeof(TivemboReport) == 32);
+
 /* What a phase call answers, the same from the walk to a host: 0, 10, or the number of a refusal; the index of the
-   rule that had the error, with 10; and how many entries the journal holds. */
+   rule that had the error, with 10; how many entries the journal holds; and what is told besides. */
 typedef struct TivemboAnswer {
+    /* 0, 10 or a refusal's number. */
     uint64_t answer;
+    /* With 10, the index of the rule in error, else 0. */
     uint64_t error;
+    /* How many entries the journal holds. */
     uint64_t visits;
+    TivemboReport report;
 } TivemboAnswer;
-TIVEMBO_ASSERT(sizeof(TivemboAnswer) == 24);
+TIVEMBO_ASSERT(sizeof(TivemboAnswer) == 56);
 
 /* The answer to a question: 0 and the number of a value, or the number of a refusal and 0. */
 typedef struct TivemboHostQueryAnswer {
+    /* 0 or a refusal's number. */
     uint64_t answer;
+    /* The value, 0 after a refusal. */
     uint64_t value;
 } TivemboHostQueryAnswer;
 TIVEMBO_ASSERT(sizeof(TivemboHostQueryAnswer) == 16);
 
 /* The same where the value is a target. */
 typedef struct TivemboHostTarget {
+    /* 0 or a refusal's number. */
     uint64_t answer;
+    /* The target's place. */
     TivemboHostPlace target;
 } TivemboHostTarget;
 TIVEMBO_ASSERT(sizeof(TivemboHostTarget) == 32);
 
 /* The record after an addition, with its answer. */
 typedef struct TivemboHostChangeAnswer {
+    /* 0 or a refusal's number. */
     uint64_t answer;
+    /* The controls after the addition, as given after a refusal. */
     TivemboHostControls controls;
 } TivemboHostChangeAnswer;
 TIVEMBO_ASSERT(sizeof(TivemboHostChangeAnswer) == 5168);
@@ -290,9 +369,7 @@ TivemboHostMarker tivembo_marker_position(
 /* The phase call, on a transaction and marker records that the host lends. */
 TivemboAnswer tivembo_run_phase(
     TivemboHostTransaction *t,
-    uint64_t phase,
-    uint64_t mode,
-    uint64_t default_status,
+    TivemboCallSettings call,
     const uint64_t *rules, size_t rules_len,
     const uint64_t *actions, size_t actions_len,
     const TivemboMarker *markers, size_t markers_len,
@@ -314,16 +391,17 @@ TivemboHostQueryAnswer tivembo_engine_mode(TivemboHostControls c, uint64_t rules
 /* Whether a rule of this id, or of none, is removed: 1 or 0. */
 TivemboHostQueryAnswer tivembo_is_rule_removed(TivemboHostControls c, TivemboHostNumber id);
 
-/* 0 On, 1 Off. */
+/* Whether the request body is read: 0 On, 1 Off. */
 TivemboHostQueryAnswer tivembo_request_body_access(TivemboHostControls c);
 
-/* 0 where none is set, else one more than the processor's number. */
+/* The body processor: 0 where none is set, else one more than its number. */
 TivemboHostQueryAnswer tivembo_request_body_processor(TivemboHostControls c);
 
-/* One range at the end. After 3 and an unknown number: 5 where the start is above the end, 8 where 256 are held. */
+/* Adds a range of removed ids at the end. After 3 and an unknown number: 5 where the start is above the end, 8 where
+   256 are held. */
 TivemboHostChangeAnswer tivembo_remove_range(TivemboHostControls c, uint64_t start, uint64_t end);
 
-/* One target at the end. After 3 and an unknown number: 9 where 64 are held. */
+/* Adds the place of a removed target at the end. After 3 and an unknown number: 9 where 64 are held. */
 TivemboHostChangeAnswer tivembo_remove_target(
     TivemboHostControls c,
     uint64_t phase,

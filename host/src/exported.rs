@@ -6,9 +6,9 @@
 #![allow(unsafe_code)]
 
 use crate::records::{
-    Action, Answer, DataEntry, HostChangeAnswer, HostControls, HostIntervention, HostMarker,
-    HostMetadata, HostNumber, HostPlace, HostQueryAnswer, HostTarget, HostTransaction,
-    JournalEntry, Marker, Part, ReadRecord, Rule,
+    Action, Answer, CallSettings, DataEntry, HostChangeAnswer, HostControls, HostIntervention,
+    HostMarker, HostMetadata, HostNumber, HostPlace, HostQueryAnswer, HostTarget, HostTransaction,
+    JournalEntry, Marker, Part, ReadRecord, Report, Rule,
 };
 use crate::words::Words;
 
@@ -34,9 +34,7 @@ extern "C" {
     ) -> HostMarker;
     fn tivembo_run_phase(
         t: *mut HostTransaction,
-        phase: u64,
-        mode: u64,
-        default_status: u64,
+        call: CallSettings,
         rules: *const u64,
         rules_len: usize,
         actions: *const u64,
@@ -107,9 +105,7 @@ pub fn marker_position(markers: &[Marker], rules: u64, text: &[u8], name: &[u8])
 #[allow(clippy::too_many_arguments)]
 pub fn run_phase(
     t: &mut HostTransaction,
-    phase: u64,
-    mode: u64,
-    default_status: u64,
+    call: CallSettings,
     rules: &[u64],
     actions: &[u64],
     markers: &[Marker],
@@ -124,9 +120,7 @@ pub fn run_phase(
     unsafe {
         tivembo_run_phase(
             t,
-            phase,
-            mode,
-            default_status,
+            call,
             rules.as_ptr(),
             rules.len(),
             actions.as_ptr(),
@@ -171,25 +165,26 @@ pub fn is_rule_removed(c: HostControls, id: HostNumber) -> HostQueryAnswer {
     unsafe { tivembo_is_rule_removed(c, id) }
 }
 
-/// 0 On, 1 Off.
+/// Whether the request body is read: 0 On, 1 Off.
 pub fn request_body_access(c: HostControls) -> HostQueryAnswer {
     // SAFETY: the contract has no `requires`.
     unsafe { tivembo_request_body_access(c) }
 }
 
-/// 0 where none is set, else one more than the processor's number.
+/// The body processor: 0 where none is set, else one more than its number.
 pub fn request_body_processor(c: HostControls) -> HostQueryAnswer {
     // SAFETY: the contract has no `requires`.
     unsafe { tivembo_request_body_processor(c) }
 }
 
-/// One range at the end. After 3 and an unknown number: 5 where the start is above the end, 8 where 256 are held.
+/// Adds a range of removed ids at the end. After 3 and an unknown number: 5 where the start is above the end, 8 where
+/// 256 are held.
 pub fn remove_range(c: HostControls, start: u64, end: u64) -> HostChangeAnswer {
     // SAFETY: the contract has no `requires`.
     unsafe { tivembo_remove_range(c, start, end) }
 }
 
-/// One target at the end. After 3 and an unknown number: 9 where 64 are held.
+/// Adds the place of a removed target at the end. After 3 and an unknown number: 9 where 64 are held.
 pub fn remove_target(c: HostControls, phase: u64, position: u64) -> HostChangeAnswer {
     // SAFETY: the contract has no `requires`.
     unsafe { tivembo_remove_target(c, phase, position) }
@@ -210,6 +205,8 @@ unsafe impl Words for HostNumber {}
 unsafe impl Words for HostMetadata {}
 unsafe impl Words for HostIntervention {}
 unsafe impl Words for HostTransaction {}
+unsafe impl Words for CallSettings {}
+unsafe impl Words for Report {}
 unsafe impl Words for Answer {}
 unsafe impl Words for HostQueryAnswer {}
 unsafe impl Words for HostTarget {}

@@ -12,10 +12,14 @@ use crate::constants::limits;
 #[repr(C)]
 #[derive(Debug, Clone, Copy, Default, PartialEq, Eq, Hash)]
 pub struct Rule {
+    /// 1 where it has an id, else 0.
     pub present: u64,
     pub id: u64,
+    /// 1 where it is a link, else 0.
     pub link: u64,
+    /// Its first action.
     pub first: u64,
+    /// How many actions it has.
     pub count: u64,
 }
 
@@ -23,7 +27,9 @@ pub struct Rule {
 #[repr(C)]
 #[derive(Debug, Clone, Copy, Default, PartialEq, Eq, Hash)]
 pub struct Part {
+    /// Its first byte.
     pub start: u64,
+    /// How many bytes it has.
     pub len: u64,
 }
 
@@ -31,9 +37,13 @@ pub struct Part {
 #[repr(C)]
 #[derive(Debug, Clone, Copy, Default, PartialEq, Eq, Hash)]
 pub struct Action {
+    /// 01's number of the kind.
     pub kind: u64,
+    /// The number of a kind that has one.
     pub number: u64,
+    /// The text of a kind that has one, and the directive of a ctl.
     pub text: Part,
+    /// The value of a ctl.
     pub value: Part,
 }
 
@@ -41,7 +51,9 @@ pub struct Action {
 #[repr(C)]
 #[derive(Debug, Clone, Copy, Default, PartialEq, Eq, Hash)]
 pub struct Marker {
+    /// Where its name stands.
     pub name: Part,
+    /// The number of the phase's rules before it.
     pub position: u64,
 }
 
@@ -49,9 +61,12 @@ pub struct Marker {
 #[repr(C)]
 #[derive(Debug, Clone, Copy, Default, PartialEq, Eq, Hash)]
 pub struct DataEntry {
+    /// 1 where it has an id, else 0.
     pub present: u64,
+    /// The id, or 0.
     pub id: u64,
     pub phase: u64,
+    /// The index of the rule that matched with a variable.
     pub index: u64,
 }
 
@@ -59,7 +74,9 @@ pub struct DataEntry {
 #[repr(C)]
 #[derive(Debug, Clone, Copy, Default, PartialEq, Eq, Hash)]
 pub struct JournalEntry {
+    /// The rule's index.
     pub index: u64,
+    /// 0 missed, 1 matched, 2 removed, 3 error.
     pub verdict: u64,
 }
 
@@ -67,8 +84,12 @@ pub struct JournalEntry {
 #[repr(C)]
 #[derive(Debug, Clone, Copy, Default, PartialEq, Eq, Hash)]
 pub struct ReadRecord {
+    /// 0 or a refusal's number.
     pub answer: u64,
+    /// 0 unsupported, 1 ruleEngine, 2 ruleRemoveById, 3 ruleRemoveTargetById, 4 requestBodyAccess, 5
+    /// requestBodyProcessor.
     pub form: u64,
+    /// The number of a mode, an access or a processor, how many ranges, or where a target is cut.
     pub value: u64,
 }
 
@@ -77,8 +98,11 @@ pub struct ReadRecord {
 #[repr(C)]
 #[derive(Debug, Clone, Copy, Default, PartialEq, Eq, Hash)]
 pub struct HostMarker {
+    /// 0 or a refusal's number.
     pub answer: u64,
+    /// 1 where there is a marker of the name, else 0.
     pub present: u64,
+    /// The position of the latest such marker, else 0.
     pub position: u64,
 }
 
@@ -86,14 +110,23 @@ pub struct HostMarker {
 #[repr(C)]
 #[derive(Debug, Clone, Copy, PartialEq, Eq, Hash)]
 pub struct HostControls {
+    /// 0 not set, 1 On, 2 DetectionOnly, 3 Off.
     pub mode: u64,
+    /// 0 not set, 1 On, 2 Off.
     pub access: u64,
+    /// 0 not set, 1 URLENCODED, 2 MULTIPART, 3 JSON, 4 XML.
     pub processor: u64,
+    /// How many ranges are held.
     pub ranges: u64,
+    /// How many targets are held.
     pub targets: u64,
+    /// Where the ranges start.
     pub starts: [u64; limits::RANGES],
+    /// Where the ranges end; both ends are removed.
     pub ends: [u64; limits::RANGES],
+    /// The phases of the targets' places.
     pub phases: [u64; limits::TARGETS],
+    /// The positions of the targets' places.
     pub positions: [u64; limits::TARGETS],
 }
 
@@ -118,8 +151,10 @@ impl Default for HostControls {
 #[repr(C)]
 #[derive(Debug, Clone, Copy, Default, PartialEq, Eq, Hash)]
 pub struct HostPlace {
+    /// 1 where there is a place, else 0.
     pub present: u64,
     pub phase: u64,
+    /// In that phase's whole action list.
     pub position: u64,
 }
 
@@ -127,10 +162,12 @@ pub struct HostPlace {
 #[repr(C)]
 #[derive(Debug, Clone, Copy, Default, PartialEq, Eq, Hash)]
 pub struct HostNumber {
+    /// 1 where there is a number, else 0.
     pub present: u64,
     pub value: u64,
 }
 
+/// The metadata of the rule that started the unit: the last action of each kind.
 #[repr(C)]
 #[derive(Debug, Clone, Copy, Default, PartialEq, Eq, Hash)]
 pub struct HostMetadata {
@@ -148,42 +185,82 @@ pub struct HostMetadata {
 #[repr(C)]
 #[derive(Debug, Clone, Copy, Default, PartialEq, Eq, Hash)]
 pub struct HostIntervention {
+    /// 1 where there is an intervention, else 0.
     pub present: u64,
     pub status: u64,
+    /// Where a redirect leads.
     pub url: HostPlace,
+    /// The log text, the starter's msg.
     pub log: HostPlace,
+    /// The closing rule's id.
     pub closing: HostNumber,
+    /// The starter's metadata id, where it is another.
     pub starter: HostNumber,
+    /// The phase in which it came about.
     pub phase: u64,
+    /// 1 where the connection is dropped, else 0.
     pub drop: u64,
+    /// The starter's metadata.
     pub metadata: HostMetadata,
 }
 
+/// A transaction as a host lends it.
 #[repr(C)]
 #[derive(Debug, Clone, Copy, Default, PartialEq, Eq, Hash)]
 pub struct HostTransaction {
+    /// What directives have set.
     pub controls: HostControls,
+    /// 1 where the request is allowed, else 0.
     pub allowed: u64,
+    /// What stops the request.
     pub intervention: HostIntervention,
+    /// How many matched ids are in use.
     pub ids: u64,
+    /// How many data entries are in use.
     pub entries: u64,
 }
 
+/// The numbers that a call is given: the phase, the rule set's mode, and the caller's default status, which a block
+/// has.
+#[repr(C)]
+#[derive(Debug, Clone, Copy, Default, PartialEq, Eq, Hash)]
+pub struct CallSettings {
+    pub phase: u64,
+    pub mode: u64,
+    pub default_status: u64,
+}
+
+/// What a phase tells besides: how many of its visits found each verdict.
+#[repr(C)]
+#[derive(Debug, Clone, Copy, Default, PartialEq, Eq, Hash)]
+pub struct Report {
+    pub missed: u64,
+    pub matched: u64,
+    pub removed: u64,
+    pub errors: u64,
+}
+
 /// What a phase call answers, the same from the walk to a host: 0, 10, or the number of a refusal; the index of the
-/// rule that had the error, with 10; and how many entries the journal holds.
+/// rule that had the error, with 10; how many entries the journal holds; and what is told besides.
 #[repr(C)]
 #[derive(Debug, Clone, Copy, Default, PartialEq, Eq, Hash)]
 pub struct Answer {
+    /// 0, 10 or a refusal's number.
     pub answer: u64,
+    /// With 10, the index of the rule in error, else 0.
     pub error: u64,
+    /// How many entries the journal holds.
     pub visits: u64,
+    pub report: Report,
 }
 
 /// The answer to a question: 0 and the number of a value, or the number of a refusal and 0.
 #[repr(C)]
 #[derive(Debug, Clone, Copy, Default, PartialEq, Eq, Hash)]
 pub struct HostQueryAnswer {
+    /// 0 or a refusal's number.
     pub answer: u64,
+    /// The value, 0 after a refusal.
     pub value: u64,
 }
 
@@ -191,7 +268,9 @@ pub struct HostQueryAnswer {
 #[repr(C)]
 #[derive(Debug, Clone, Copy, Default, PartialEq, Eq, Hash)]
 pub struct HostTarget {
+    /// 0 or a refusal's number.
     pub answer: u64,
+    /// The target's place.
     pub target: HostPlace,
 }
 
@@ -199,6 +278,8 @@ pub struct HostTarget {
 #[repr(C)]
 #[derive(Debug, Clone, Copy, Default, PartialEq, Eq, Hash)]
 pub struct HostChangeAnswer {
+    /// 0 or a refusal's number.
     pub answer: u64,
+    /// The controls after the addition, as given after a refusal.
     pub controls: HostControls,
 }

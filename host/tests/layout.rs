@@ -86,8 +86,18 @@ fn host_transaction() {
 }
 
 #[test]
+fn call_settings() {
+    layout!(CallSettings, 24, 8, phase 0, mode 8, default_status 16);
+}
+
+#[test]
+fn report() {
+    layout!(Report, 32, 8, missed 0, matched 8, removed 16, errors 24);
+}
+
+#[test]
 fn answer() {
-    layout!(Answer, 24, 8, answer 0, error 8, visits 16);
+    layout!(Answer, 56, 8, answer 0, error 8, visits 16, report 24);
 }
 
 #[test]
