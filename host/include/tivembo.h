@@ -296,17 +296,24 @@ TIVEMBO_ASSERT(sizeof(TivemboHostTransaction) == 5456);
 /* The numbers that a call is given: the phase, the rule set's mode, and the caller's default status, which a block
    has. */
 typedef struct TivemboCallSettings {
+    /* 1 to 5. */
     uint64_t phase;
+    /* 0 On, 1 DetectionOnly, 2 Off. */
     uint64_t mode;
+    /* The status that a block stands for. */
     uint64_t default_status;
 } TivemboCallSettings;
 TIVEMBO_ASSERT(sizeof(TivemboCallSettings) == 24);
 
 /* What a phase tells besides: how many of its visits found each verdict. */
 typedef struct TivemboReport {
+    /* How many visits missed. */
     uint64_t missed;
+    /* How many matched. */
     uint64_t matched;
+    /* How many found their rule removed. */
     uint64_t removed;
+    /* How many met a rule error: one, with answer 10, or none. */
     uint64_t errors;
 } TivemboReport;
 TIVEMBO_ASSERT(sizeof(TivemboReport) == 32);
@@ -320,6 +327,7 @@ typedef struct TivemboAnswer {
     uint64_t error;
     /* How many entries the journal holds. */
     uint64_t visits;
+    /* How many visits found each verdict. */
     TivemboReport report;
 } TivemboAnswer;
 TIVEMBO_ASSERT(sizeof(TivemboAnswer) == 56);

@@ -225,8 +225,11 @@ pub struct HostTransaction {
 #[repr(C)]
 #[derive(Debug, Clone, Copy, Default, PartialEq, Eq, Hash)]
 pub struct CallSettings {
+    /// 1 to 5.
     pub phase: u64,
+    /// 0 On, 1 DetectionOnly, 2 Off.
     pub mode: u64,
+    /// The status that a block stands for.
     pub default_status: u64,
 }
 
@@ -234,9 +237,13 @@ pub struct CallSettings {
 #[repr(C)]
 #[derive(Debug, Clone, Copy, Default, PartialEq, Eq, Hash)]
 pub struct Report {
+    /// How many visits missed.
     pub missed: u64,
+    /// How many matched.
     pub matched: u64,
+    /// How many found their rule removed.
     pub removed: u64,
+    /// How many met a rule error: one, with answer 10, or none.
     pub errors: u64,
 }
 
@@ -251,6 +258,7 @@ pub struct Answer {
     pub error: u64,
     /// How many entries the journal holds.
     pub visits: u64,
+    /// How many visits found each verdict.
     pub report: Report,
 }
 

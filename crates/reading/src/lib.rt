@@ -104,8 +104,11 @@ pub enum OptionPlace {
 // The numbers that a call is given: the phase, the rule set's mode, and the caller's default status, which a block has.
 #[repr(C)]
 pub struct CallSettings {
+    // 1 to 5.
     pub phase: u64,
+    // 0 On, 1 DetectionOnly, 2 Off.
     pub mode: u64,
+    // The status that a block stands for.
     pub default_status: u64,
 }
 
@@ -166,9 +169,13 @@ pub struct JournalEntry {
 // What a phase tells besides: how many of its visits found each verdict.
 #[repr(C)]
 pub struct Report {
+    // How many visits missed.
     pub missed: u64,
+    // How many matched.
     pub matched: u64,
+    // How many found their rule removed.
     pub removed: u64,
+    // How many met a rule error: one, with answer 10, or none.
     pub errors: u64,
 }
 

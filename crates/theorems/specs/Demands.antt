@@ -12,11 +12,11 @@ use borrow.Author.Tests.{eq-eqb, ne-eqb, eqb-true, eqb-false}
 use Rattle.reading.specs.declared.JournalEntry.{JournalEntry}
 use Rattle.reading.specs.declared.Intervention.{Intervention}
 use Rattle.reading.specs.declared.OptionIntervention.{OptionIntervention}
-use Rattle.reading.specs.Lists.{keep, over}
+use Rattle.reading.specs.Lists.{keep}
 use Rattle.reading.specs.Call.{Given, Call, Transaction, Lists, ruleCount, isLink, modeUnder}
 use Rattle.reading.specs.Controls.{Controls, isOn}
 use Rattle.reading.specs.Units.{unitDisruptive, unitIntervention, isStopping}
-use Rattle.reading.specs.Walk.{Visit, walk, start, walkOf, isStopped, nothingToDo, journalOf, idsOf, dataOf, allowedBy, interventionBy, answerBy, errorIndexBy, isError}
+use Rattle.reading.specs.Walk.{Visit, walk, start, walkOf, isStopped, nothingToDo, journalOf, allowedBy, interventionBy, answerBy, errorIndexBy, isError}
 use Rattle.reading.specs.Replay.{heldAfter, unitsOf, lastClosedFrom, lastClosed, stopOf, replayedControls, replayedIntervention}
 use Rattle.reading.specs.Refusals.{refusalOf, refused1, refused2, refused3, refused4, refused5, refused6, refused7, refused8, refused9}
 use Rattle.reading.specs.Outcome.{Outcome, visitsOf, outcomeOf, atFreeEnd, ifNone, transactionAfter, listsAfter}

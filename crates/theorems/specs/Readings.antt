@@ -31,7 +31,7 @@ use Rattle.reading.specs.Call.{Given, Call, Transaction, ruleCount, ruleAt, isL
 use Rattle.reading.specs.Walk.{State, goesOn, allows, stops, isLast, interventionOr, afterChain, jumpFrom, markerName, afterFlow, endingBy, visitBy, isStopped, nothingToDo}
 use Rattle.reading.specs.Units.{starterOf, unitFlow, isAllow, isStopping, stopStatus, unitIntervention}
 use Rattle.reading.specs.Refusals.{refusalOf, refused1, refused2, refused3, refused4, refused5, refused6, refused7, refused8, refused9, ruleTotal, outside, outsideText, numberLimit, badRule, badAction}
-use Rattle.reading.specs.Manual.{manualJumps, manualRuleNamed, manualTarget, rustTarget, manualSkip, rustSkip, manualActs, rustActs, manualRedirectStatus, rustRedirectStatus, manualMatched, rustLink, rustClosed, manualFlow, rustFlow, manualEnters, rustEnters, manualStops, rustStops, manualRemovalBy, manualRemoval, rustRemoval, rustDirectives, manualNames, rustNames, manualTakesId, rustTakesId, manualTakesMetadata, rustTakesMetadata, manualTakesNumber, rustTakesNumber}
+use Rattle.reading.specs.Manual.{manualJumps, manualRuleNamed, manualTarget, rustTarget, manualSkip, rustSkip, manualActs, rustActs, manualRedirectStatus, rustRedirectStatus, manualMatched, rustLink, rustClosed, manualFlow, rustFlow, manualEnters, rustEnters, manualStops, rustStops, manualRemovalBy, manualRemoval, rustRemoval, manualNames, rustNames, manualTakesId, rustTakesId, manualTakesMetadata, rustTakesMetadata, manualTakesNumber, rustTakesNumber}
 use Rattle.lists.proofs.Tests.{any-append}
 
 -- actions among which there is neither chain nor multiMatch

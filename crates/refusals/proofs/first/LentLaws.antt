@@ -1,6 +1,6 @@
 -- What the tests of the lists and sizes that a call lends say of its refusals. Assumes nothing.
 use Prim.Native.Nat.{ℕ, suc, _+_, _/_}
-use mathlib.Core.Path.{_≡_, refl, sym, ap, _∙_}
+use mathlib.Core.Path.{_≡_, refl, sym, _∙_}
 use mathlib.Core.Bool.{Bool, true, false, cond, _||_}
 use mathlib.Core.List.{List}
 use native.Mathlib.Omega.{arith}

@@ -1,5 +1,5 @@
 -- `abi::host_phase::host_phase` meets its contract.
-use mathlib.Core.Path.{_≡_, refl, sym, subst, _∙_}
+use mathlib.Core.Path.{_≡_, sym, subst, _∙_}
 use Prim.Native.Nat.{ℕ}
 use mathlib.Core.Bool.{true}
 use mathlib.Core.List.{List, map}
@@ -13,7 +13,7 @@ use Rattle.abi.specs.declared.host_phase.HostPhase.{HostPhase}
 use Rattle.transaction.specs.RunPhase.{answerWithout, Ran}
 use borrow.Author.Needs.{needs}
 use borrow.Author.Tests.{not-true, not-false}
-use Rattle.abi.specs.HostRecord.{known, fromHost}
+use Rattle.abi.specs.HostRecord.{known}
 use Rattle.abi.specs.HostCall.{lentPart, HostRan}
 use Rattle.abi.proofs.host_phase.HostLaws.{ran-unknown, unvisited, visited}
 use Rattle.abi.proofs.host_phase.host_phase.Statement.{statement}
