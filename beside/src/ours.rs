@@ -5,7 +5,7 @@ mod read;
 use crate::case::{Call, Case};
 use case_format::{CallResult, Mode};
 use tivembo::raw::{run_phase, words, Lent, Lists};
-use tivembo::{HostIntervention, HostTransaction, Place};
+use tivembo::{CallSettings, HostIntervention, HostTransaction, Place};
 
 /// What entries that a call must not write hold.
 const PATTERN: u64 = 0xA5A5_5A5A_0F0F_F0F0;
@@ -60,9 +60,11 @@ impl Ours {
         let before = self.held.clone();
         let lists_before = (self.ids.clone(), self.entries.clone());
         let lent = Lent {
-            phase: call.phase,
-            mode: self.mode.number(),
-            status: self.status,
+            call: CallSettings {
+                phase: call.phase,
+                mode: self.mode.number(),
+                default_status: self.status,
+            },
             rules: words(&call.rules),
             actions: words(&call.actions),
             markers: &call.markers,

@@ -40,9 +40,7 @@ static const uint8_t TEXT[] = {'A'};
 static TivemboAnswer run(TivemboHostTransaction *transaction, const Rules *given, Lists *lists) {
     return tivembo_run_phase(
         transaction,
-        2,
-        TIVEMBO_MODE_ON,
-        403,
+        (TivemboCallSettings){.phase = 2, .mode = TIVEMBO_MODE_ON, .default_status = 403},
         (const uint64_t *)given->rules, given->rules_len * TIVEMBO_WIDTH_RULE,
         (const uint64_t *)given->actions, given->actions_len * TIVEMBO_WIDTH_ACTION,
         given->markers, given->markers_len,

@@ -76,9 +76,9 @@ pub use intervention::{Intervention, Metadata};
 pub use limits::{Broken, Limit, Where};
 pub use phase::{Answer, Phase};
 pub use records::{
-    Action, Answer as HostAnswer, DataEntry, HostChangeAnswer, HostControls, HostIntervention,
-    HostMarker, HostMetadata, HostNumber, HostPlace, HostQueryAnswer, HostTarget, HostTransaction,
-    JournalEntry, Marker, Part, Rule,
+    Action, Answer as HostAnswer, CallSettings, DataEntry, HostChangeAnswer, HostControls,
+    HostIntervention, HostMarker, HostMetadata, HostNumber, HostPlace, HostQueryAnswer, HostTarget,
+    HostTransaction, JournalEntry, Marker, Part, Report, Rule,
 };
 pub use refusal::Refusal;
 pub use ruleset::{Builder, Records, RuleSet};

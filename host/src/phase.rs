@@ -1,7 +1,7 @@
 //! What a phase call gives.
 
 use crate::intervention::Intervention;
-use crate::records::{Answer as HostAnswer, DataEntry, HostTransaction, JournalEntry};
+use crate::records::{Answer as HostAnswer, DataEntry, HostTransaction, JournalEntry, Report};
 use crate::transaction::Transaction;
 use crate::values::{Data, Place, Verdict};
 
@@ -79,6 +79,25 @@ impl<'t> Phase<'t> {
         };
         let entries = self.transaction.journal().iter();
         entries.take(self.answer.visits as usize).map(visit)
+    }
+
+    /// How many visits found each verdict.
+    ///
+    /// ```
+    /// use tivembo::{Act, Mode, Outcome, RuleSet, Transaction};
+    ///
+    /// let mut builder = RuleSet::builder();
+    /// builder.rule(Some(10), false, &[Act::Id(10)]).rule(Some(11), false, &[Act::Id(11)]);
+    /// let rules = builder.build()?;
+    /// let mut transaction = Transaction::new();
+    /// let outcomes = [Outcome::Missed, Outcome::Matched];
+    /// let phase = transaction.run_phase(&rules, 2, Mode::On, 403, &outcomes)?;
+    /// let report = phase.report();
+    /// assert_eq!((report.missed, report.matched, report.removed), (1, 1, 0));
+    /// # Ok::<(), Box<dyn std::error::Error>>(())
+    /// ```
+    pub fn report(&self) -> Report {
+        self.answer.report
     }
 
     /// The matched ids that this call added.

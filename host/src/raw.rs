@@ -4,7 +4,7 @@
 //! is the comfortable way; this one is for tests, and for hosts that keep the records themselves.
 
 use crate::exported;
-use crate::records::{Answer, HostTransaction, Marker};
+use crate::records::{Answer, CallSettings, HostTransaction, Marker};
 
 pub use crate::exported::{
     engine_mode, is_rule_removed, marker_position, read_directive, remove_range, remove_target,
@@ -17,12 +17,8 @@ pub use crate::words::{outcome_bytes, words, words_mut, Words};
 /// [`Action`](crate::Action). Numbers after the last whole record are not looked at.
 #[derive(Debug, Clone, Copy, Default)]
 pub struct Lent<'a> {
-    /// The number of the phase.
-    pub phase: u64,
-    /// The number of the rule set's mode: 0 On, 1 DetectionOnly, 2 Off.
-    pub mode: u64,
-    /// The status that block stands for.
-    pub status: u64,
+    /// The phase, the rule set's mode and the default status, each as a number.
+    pub call: CallSettings,
     /// The rules, 5 numbers each.
     pub rules: &'a [u64],
     /// The actions, 6 numbers each.
@@ -50,12 +46,11 @@ pub struct Lists<'a> {
 ///
 /// ```
 /// use tivembo::raw::{run_phase, Lent, Lists};
-/// use tivembo::HostTransaction;
+/// use tivembo::{CallSettings, HostTransaction};
 ///
 /// // C2 of 01: rule 10 has the actions id 10 and deny, and matched with a variable.
 /// let lent = Lent {
-///     phase: 2,
-///     status: 403,
+///     call: CallSettings { phase: 2, mode: 0, default_status: 403 },
 ///     rules: &[1, 10, 0, 0, 2],
 ///     actions: &[11, 10, 0, 0, 0, 0, 1, 0, 0, 0, 0, 0],
 ///     outcomes: &[2],
@@ -70,7 +65,7 @@ pub struct Lists<'a> {
 /// assert_eq!((ids, entries, journal), ([10], [1, 10, 2, 0], [0, 1]));
 ///
 /// // Any numbers may be lent.
-/// let wrong = Lent { phase: 6, ..lent };
+/// let wrong = Lent { call: CallSettings { phase: 6, ..lent.call }, ..lent };
 /// assert_eq!(run_phase(&mut transaction, &wrong, &mut Lists::default()).answer, 1);
 /// ```
 pub fn run_phase(
@@ -80,9 +75,7 @@ pub fn run_phase(
 ) -> Answer {
     exported::run_phase(
         transaction,
-        lent.phase,
-        lent.mode,
-        lent.status,
+        lent.call,
         lent.rules,
         lent.actions,
         lent.markers,

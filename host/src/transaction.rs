@@ -5,7 +5,7 @@ use crate::intervention::Intervention;
 use crate::limits::MOST_RULES;
 use crate::phase::{Before, Phase};
 use crate::raw::{self, Lent, Lists};
-use crate::records::{DataEntry, HostChangeAnswer, HostTransaction, JournalEntry};
+use crate::records::{CallSettings, DataEntry, HostChangeAnswer, HostTransaction, JournalEntry};
 use crate::ruleset::{Records, RuleSet};
 use crate::values::{Data, Mode, Outcome, Place};
 use crate::Refusal;
@@ -127,9 +127,11 @@ impl Transaction {
         self.make_room(records.rules.len());
         let before = Before::of(&self.record);
         let lent = Lent {
-            phase,
-            mode: mode.number(),
-            status,
+            call: CallSettings {
+                phase,
+                mode: mode.number(),
+                default_status: status,
+            },
             rules: raw::words(records.rules),
             actions: raw::words(records.actions),
             markers: records.markers,

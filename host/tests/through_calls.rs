@@ -4,9 +4,9 @@
 
 use tivembo::raw::{self, Lent, Lists};
 use tivembo::{
-    Act, Action, DataEntry, HostAnswer, HostControls, HostIntervention, HostMetadata, HostNumber,
-    HostPlace, HostTransaction, JournalEntry, Marker, Part, Rule, RuleSet, MOST_RANGES,
-    MOST_TARGETS,
+    Act, Action, CallSettings, DataEntry, HostAnswer, HostControls, HostIntervention, HostMetadata,
+    HostNumber, HostPlace, HostTransaction, JournalEntry, Marker, Part, Report, Rule, RuleSet,
+    MOST_RANGES, MOST_TARGETS,
 };
 
 /// Controls in which every number of the arrays differs.
@@ -163,9 +163,11 @@ fn check(stops: Act, wanted: &HostTransaction) {
     let rules = rules(stops);
     let records = rules.records();
     let lent = Lent {
-        phase: 3,
-        mode: 0,
-        status: 403,
+        call: CallSettings {
+            phase: 3,
+            mode: 0,
+            default_status: 403,
+        },
         rules: raw::words(records.rules),
         actions: raw::words(records.actions),
         markers: records.markers,
@@ -191,6 +193,10 @@ fn check(stops: Act, wanted: &HostTransaction) {
     let answer = raw::run_phase(&mut transaction, &lent, &mut lists);
     let visited = HostAnswer {
         visits: 2,
+        report: Report {
+            matched: 2,
+            ..Report::default()
+        },
         ..HostAnswer::default()
     };
     assert_eq!(answer, visited);
@@ -213,7 +219,10 @@ fn every_number_of_a_transaction_is_written() {
 #[test]
 fn the_flags_of_a_transaction_are_read() {
     let lent = Lent {
-        phase: 1,
+        call: CallSettings {
+            phase: 1,
+            ..CallSettings::default()
+        },
         rules: &[0; 5],
         outcomes: &[1],
         ..Lent::default()
@@ -244,26 +253,49 @@ fn the_flags_of_a_transaction_are_read() {
 
 #[test]
 fn every_number_of_an_answer() {
+    let held = HostControls {
+        ranges: 1,
+        starts: std::array::from_fn(|_| 5),
+        ends: std::array::from_fn(|_| 5),
+        ..HostControls::default()
+    };
+    let mut transaction = HostTransaction {
+        controls: held,
+        ..HostTransaction::default()
+    };
+    // Three rules without an id, three that are removed, and two without an id, of which the second is in error.
+    let rules: Vec<u64> = (0..8u64)
+        .flat_map(|at| [u64::from((3..6).contains(&at)), 5, 0, 0, 0])
+        .collect();
     let lent = Lent {
-        phase: 1,
-        rules: &[0; 10],
-        outcomes: &[1, 3],
+        call: CallSettings {
+            phase: 1,
+            ..CallSettings::default()
+        },
+        rules: &rules,
+        outcomes: &[0, 0, 0, 3, 3, 3, 1, 3],
         ..Lent::default()
     };
-    let (mut ids, mut entries, mut journal) = ([0; 2], [0; 8], [0; 4]);
+    let (mut ids, mut entries, mut journal) = ([0; 8], [0; 32], [0; 16]);
     let mut lists = Lists {
         ids: &mut ids,
         entries: &mut entries,
         journal: &mut journal,
     };
-    let answer = raw::run_phase(&mut HostTransaction::default(), &lent, &mut lists);
+    let answer = raw::run_phase(&mut transaction, &lent, &mut lists);
     let expected = HostAnswer {
         answer: 10,
-        error: 1,
-        visits: 2,
+        error: 7,
+        visits: 8,
+        report: Report {
+            missed: 3,
+            matched: 1,
+            removed: 3,
+            errors: 1,
+        },
     };
     assert_eq!(answer, expected);
-    assert_eq!(journal, [0, 1, 1, 3]);
+    assert_eq!(journal, [0, 0, 1, 0, 2, 0, 3, 2, 4, 2, 5, 2, 6, 1, 7, 3]);
 }
 
 #[test]

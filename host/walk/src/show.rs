@@ -7,7 +7,7 @@ use case_format::{
     Action, Answer, BodyProcessor, CallResult, Directive, Entry, Intervention, Kind, Mode,
     Operands, Rule, Stop,
 };
-use tivembo::{Phase, Refusal};
+use tivembo::{Phase, Refusal, Report};
 
 use crate::results;
 use crate::run::Walked;
@@ -27,6 +27,8 @@ pub fn print_call(out: &mut impl Write, walked: &Walked) -> Result<()> {
     match &walked.result {
         Ok(phase) => {
             print_rules(out, walked, phase)?;
+            let visits = visits(phase.report(), walked.call.rules.len());
+            print_field(out, "visits", &visits)?;
             let ids = found.ids.iter().map(u64::to_string).collect();
             print_field(out, "ids", &or_dash(ids, " "))?;
             let data = found.data.iter().map(data).collect();
@@ -108,6 +110,28 @@ fn settings(
         access.map(|on| format!("body access {}", on_off(on))),
         processor.map(|name| format!("body processor {name}")),
     ]
+}
+
+/// How many rules were visited, and what the visits found.
+fn visits(report: Report, rules: usize) -> String {
+    let found = [
+        (report.missed, "missed"),
+        (report.matched, "matched"),
+        (report.removed, "removed"),
+        (report.errors, "in error"),
+    ];
+    let all: u64 = found.iter().map(|(count, _)| count).sum();
+    let told = found.iter().filter(|(count, _)| *count > 0);
+    let told: Vec<String> = told
+        .map(|(count, word)| format!("{count} {word}"))
+        .collect();
+    let told = if told.is_empty() {
+        String::new()
+    } else {
+        format!(": {}", told.join(", "))
+    };
+    let word = if rules == 1 { "rule" } else { "rules" };
+    format!("{all} of {rules} {word}{told}")
 }
 
 fn print_rules(out: &mut impl Write, walked: &Walked, phase: &Phase) -> Result<()> {

@@ -69,6 +69,9 @@ fn a_walk_shows_every_rule() {
         "  1  rule 31      deny                                        passed   no usable marker: A at 1 is not greater than 1",
         "  2  rule 42                                                  removed  in range 42-42, the chain stays open",
         "  3  rule 43                                                  matched  closes unit 1 3, stops",
+        "  visits    4 of 4 rules: 3 matched, 1 removed",
+        "  visits    1 of 2 rules: 1 matched",
+        "  visits    0 of 0 rules",
         "  request   stopped, status 403, ids 43 41",
         "ruleRemoveById=\"1,5-4\"  unsupported",
     ] {

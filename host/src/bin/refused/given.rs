@@ -2,7 +2,8 @@
 
 use tivembo::raw::{words, Lent, Lists};
 use tivembo::{
-    Action, HostAnswer, HostTransaction, Marker, Mode, Outcome, Records, Rule, Transaction,
+    Action, CallSettings, HostAnswer, HostTransaction, Marker, Mode, Outcome, Records, Rule,
+    Transaction,
 };
 
 /// A phase call: ours, or one that stands in for it.
@@ -49,9 +50,7 @@ impl List {
 /// Everything that a call is given.
 #[derive(Debug, Clone, PartialEq, Eq)]
 pub struct Given {
-    pub phase: u64,
-    pub mode: u64,
-    pub status: u64,
+    pub call: CallSettings,
     pub rules: Vec<Rule>,
     pub actions: Vec<Action>,
     pub markers: Vec<Marker>,
@@ -67,9 +66,7 @@ impl Given {
     /// Makes the call.
     pub fn call(&mut self, call: PhaseCall) -> HostAnswer {
         let lent = Lent {
-            phase: self.phase,
-            mode: self.mode,
-            status: self.status,
+            call: self.call,
             rules: words(&self.rules),
             actions: words(&self.actions),
             markers: &self.markers,

@@ -1,8 +1,8 @@
 //! Random calls to which no refusal applies. What each part may be is 01's; no code of ours is asked.
 
 use tivembo::{
-    Action, HostControls, HostIntervention, HostMetadata, HostNumber, HostPlace, HostTransaction,
-    Marker, Part, Rule,
+    Action, CallSettings, HostControls, HostIntervention, HostMetadata, HostNumber, HostPlace,
+    HostTransaction, Marker, Part, Rule,
 };
 
 use crate::given::{Given, List};
@@ -51,9 +51,11 @@ pub fn legal(random: &mut Random) -> Given {
     let mut rule = |_| rule(random, actions.len());
     let rules: Vec<Rule> = (0..rules).map(&mut rule).collect();
     Given {
-        phase: 1 + random.number(5),
-        mode: random.number(3),
-        status: random.wild(),
+        call: CallSettings {
+            phase: 1 + random.number(5),
+            mode: random.number(3),
+            default_status: random.wild(),
+        },
         outcomes: rules.iter().map(|_| random.number(4) as u8).collect(),
         rules,
         actions,

@@ -143,7 +143,7 @@ fn is_possible(found: &HostAnswer, given: &Given, before: &Given) -> bool {
 fn tell(is_right: bool, wrong: u64, what: &str, before: &Given, answer: u64) -> u64 {
     if !is_right && wrong < SHOWN {
         println!("wrong: {what}; answered {answer}");
-        println!("  phase {}, mode {}", before.phase, before.mode);
+        println!("  phase {}, mode {}", before.call.phase, before.call.mode);
         println!("  rules {:?}", &before.rules[..before.rules.len().min(8)]);
     }
     u64::from(!is_right)

@@ -22,9 +22,9 @@ pub const FAULTS: [fn(&mut Given, &mut Random); 9] = [
 
 fn unknown_phase_or_mode(given: &mut Given, random: &mut Random) {
     match random.below(3) {
-        0 => given.phase = 0,
-        1 => given.phase = random.above(5),
-        _ => given.mode = random.above(2),
+        0 => given.call.phase = 0,
+        1 => given.call.phase = random.above(5),
+        _ => given.call.mode = random.above(2),
     }
 }
 

@@ -34,7 +34,7 @@ pub fn wild(random: &mut Random) -> Given {
         given.outcomes.fill_with(|| random.bits() as u8);
     }
     if random.one_in(16) {
-        (given.phase, given.mode) = (random.wild(), random.wild());
+        (given.call.phase, given.call.mode) = (random.wild(), random.wild());
     }
     for list in [&mut given.ids, &mut given.entries, &mut given.journal] {
         if random.one_in(16) {
