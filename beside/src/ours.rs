@@ -5,7 +5,7 @@ mod read;
 use crate::case::{Call, Case};
 use case_format::{CallResult, Mode};
 use tivembo::raw::{run_phase, words, Lent, Lists};
-use tivembo::{CallSettings, HostIntervention, HostTransaction, Place};
+use tivembo::{CallSettings, HostIntervention, HostTransaction, Place, Report};
 
 /// What entries that a call must not write hold.
 const PATTERN: u64 = 0xA5A5_5A5A_0F0F_F0F0;
@@ -78,7 +78,10 @@ impl Ours {
         };
         let answer = run_phase(&mut self.held, &lent, &mut lists);
         let visits = answer.visits as usize;
-        let faults = self.faults(&before, &lists_before, visits);
+        let mut faults = self.faults(&before, &lists_before, visits);
+        if answer.report != self.counted(visits) {
+            faults.push("how many visits found each verdict");
+        }
         let mut found = self.found(call, &before);
         found.answer = read::answer(&answer);
         found.visits = self.visits(visits).filter_map(read::visit).collect();
@@ -88,6 +91,20 @@ impl Ours {
     /// The journal's entries of so many visits.
     fn visits(&self, count: usize) -> impl Iterator<Item = &[u64]> {
         self.journal.chunks_exact(2).take(count)
+    }
+
+    /// How many entries of the journal have each verdict, counted here once more.
+    fn counted(&self, visits: usize) -> Report {
+        let with = |verdict: u64| {
+            let has = |entry: &&[u64]| entry[1] == verdict;
+            self.visits(visits).filter(has).count() as u64
+        };
+        Report {
+            missed: with(0),
+            matched: with(1),
+            removed: with(2),
+            errors: with(3),
+        }
     }
 
     /// Lists with room for each rule and a few entries more; what is in use stays.

@@ -4,7 +4,7 @@ use std::time::{Duration, Instant};
 
 use beside::case::Case;
 use tivembo::raw::{run_phase, words, Lent, Lists};
-use tivembo::{HostAnswer, HostTransaction};
+use tivembo::{CallSettings, HostAnswer, HostTransaction};
 
 /// A call that is made again and again. Before each, the whole record is set back to what it holds at entry, outside the
 /// measured time. The lists stay as they are: a call looks at nothing after the counts of the record.
@@ -33,9 +33,11 @@ impl<'a> Gateway<'a> {
         let rules = call.rules.len();
         Self {
             lent: Lent {
-                phase: call.phase,
-                mode: case.mode.number(),
-                status: u64::from(case.status),
+                call: CallSettings {
+                    phase: call.phase,
+                    mode: case.mode.number(),
+                    default_status: u64::from(case.status),
+                },
                 rules: words(&call.rules),
                 actions: words(&call.actions),
                 markers: &call.markers,
