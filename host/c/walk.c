@@ -5,8 +5,6 @@
 
 #include "tivembo.h"
 
-/* 01's number of an id action; the sources have no constant for it. */
-#define KIND_ID UINT64_C(11)
 /* 01: "2 matched with one", a variable. */
 #define MATCHED_WITH_A_VARIABLE 2
 
@@ -94,7 +92,7 @@ static void walk(const char *name, const Rules *given) {
 /* 10 deny. */
 static void c2(void) {
     static const TivemboRule rules[] = {{.present = 1, .id = 10, .first = 0, .count = 2}};
-    static const TivemboAction actions[] = {{.kind = KIND_ID, .number = 10}, {.kind = TIVEMBO_KIND_DENY}};
+    static const TivemboAction actions[] = {{.kind = TIVEMBO_KIND_ID, .number = 10}, {.kind = TIVEMBO_KIND_DENY}};
     const Rules given = {rules, COUNT(rules), actions, COUNT(actions), A_AT_1, 0, TEXT, 0};
     walk("C2", &given);
 }
@@ -106,9 +104,9 @@ static void c8(void) {
         {.present = 1, .id = 31, .first = 2, .count = 2},
     };
     static const TivemboAction actions[] = {
-        {.kind = KIND_ID, .number = 30},
+        {.kind = TIVEMBO_KIND_ID, .number = 30},
         {.kind = TIVEMBO_KIND_SKIP_AFTER, .text = {.start = 0, .len = 1}},
-        {.kind = KIND_ID, .number = 31},
+        {.kind = TIVEMBO_KIND_ID, .number = 31},
         {.kind = TIVEMBO_KIND_DENY},
     };
     const Rules given = {rules, COUNT(rules), actions, COUNT(actions), A_AT_1, COUNT(A_AT_1), TEXT, COUNT(TEXT)};

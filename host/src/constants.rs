@@ -26,8 +26,9 @@ pub mod widths {
     pub const JOURNAL_ENTRY: usize = 2;
 }
 
-/// 01's numbers of the kinds of actions that the code asks for.
+/// 01's numbers of the kinds of actions.
 pub mod kinds {
+    pub const OTHER: u64 = 0;
     pub const DENY: u64 = 1;
     pub const BLOCK: u64 = 2;
     pub const PASS: u64 = 3;
@@ -38,7 +39,13 @@ pub mod kinds {
     pub const SKIP: u64 = 8;
     pub const SKIP_AFTER: u64 = 9;
     pub const MULTI_MATCH: u64 = 10;
+    pub const ID: u64 = 11;
+    pub const MSG: u64 = 12;
+    pub const LOGDATA: u64 = 13;
+    pub const REV: u64 = 14;
+    pub const VER: u64 = 15;
     pub const SEVERITY: u64 = 16;
+    pub const MATURITY: u64 = 17;
     pub const ACCURACY: u64 = 18;
     pub const CTL: u64 = 19;
     pub const STATUS: u64 = 20;

@@ -1,4 +1,6 @@
-// 01's numbers of the kinds of actions that the code asks for.
+// 01's numbers of the kinds of actions.
+
+pub const OTHER: u64 = 0;
 
 pub const DENY: u64 = 1;
 
@@ -20,7 +22,19 @@ pub const SKIP_AFTER: u64 = 9;
 
 pub const MULTI_MATCH: u64 = 10;
 
+pub const ID: u64 = 11;
+
+pub const MSG: u64 = 12;
+
+pub const LOGDATA: u64 = 13;
+
+pub const REV: u64 = 14;
+
+pub const VER: u64 = 15;
+
 pub const SEVERITY: u64 = 16;
+
+pub const MATURITY: u64 = 17;
 
 pub const ACCURACY: u64 = 18;
 

@@ -53,9 +53,9 @@ alike point m r should = numbers point m should r should
 abbrev alikeTests : String → Bool → Bool → Bool → Difference
 alikeTests point m r should = alike point (bit m) (bit r) (bit should)
 
-pub allDiffer : List Difference → Bool
-allDiffer [] = true
-allDiffer (d ∷ ds) = eqb (d .manual-gives) (d .manual-should) && eqb (d .rust-gives) (d .rust-should) && allDiffer ds
+pub allAsStated : List Difference → Bool
+allAsStated [] = true
+allAsStated (d ∷ ds) = eqb (d .manual-gives) (d .manual-should) && eqb (d .rust-gives) (d .rust-should) && allAsStated ds
 
 -- THE CASES: what a call of some rules and markers is given, in phase 2 and mode On
 
@@ -234,6 +234,6 @@ differences =
     ∷ []
 
 -- every row holds
-pub difference-table : allDiffer differences ≡ true
-unfolding differences allDiffer same trimStart before trimEnd trim fold allDigits valueFrom digits withoutPlus numberOf indexOf onFirst splitOn oneId idsTo idsFrom idPart anyBad rangesIn directiveOf isRemoved actionsOf lastOf lastDisruptive lastFlow directiveIn markerPosition ruleAt isLink actionsAt ruleControls unitDisruptive afterChain afterRule manualSkip
+pub difference-table : allAsStated differences ≡ true
+unfolding differences allAsStated same trimStart before trimEnd trim fold allDigits valueFrom digits withoutPlus numberOf indexOf onFirst splitOn oneId idsTo idsFrom idPart anyBad rangesIn directiveOf isRemoved actionsOf lastOf lastDisruptive lastFlow directiveIn markerPosition ruleAt isLink actionsAt ruleControls unitDisruptive afterChain afterRule manualSkip
 difference-table = refl
