@@ -334,7 +334,7 @@ typedef struct TivemboAnswer {
     uint64_t error;
     /* How many entries the journal holds. */
     uint64_t visits;
-    /* How many visits found each verdict. */
+    /* What is told besides. */
     TivemboReport report;
 } TivemboAnswer;
 TIVEMBO_ASSERT(sizeof(TivemboAnswer) == 56);

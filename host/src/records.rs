@@ -258,7 +258,7 @@ pub struct Answer {
     pub error: u64,
     /// How many entries the journal holds.
     pub visits: u64,
-    /// How many visits found each verdict.
+    /// What is told besides.
     pub report: Report,
 }
 

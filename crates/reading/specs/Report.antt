@@ -1,8 +1,8 @@
 -- What a phase tells besides: how many of its visits found each verdict. Defined twice, by the walk's visits and by a journal
 -- alone; `report-told` in crates/theorems says that the two are the same.
-use Prim.Native.Nat.{ℕ, suc}
-use mathlib.Core.Bool.{cond}
-use mathlib.Core.List.{List, [], _∷_}
+use Prim.Native.Nat.{ℕ}
+use mathlib.Core.Bool.{Bool, true, false, cond}
+use mathlib.Core.List.{List}
 use lib.Dec.{eqb}
 use Rattle.reading.specs.declared.Verdict.{Verdict}
 use Rattle.reading.specs.declared.JournalEntry.{JournalEntry}
@@ -16,16 +16,35 @@ noReport = record { missed = 0; matched = 0; removed = 0; errors = 0 }
 
 -- BY THE WALK
 
--- with one visit more
-abbrev pub withVisit : Verdict → Report → Report
-withVisit Verdict.Missed r = record { missed = suc (r .missed); matched = r .matched; removed = r .removed; errors = r .errors }
-withVisit Verdict.Matched r = record { missed = r .missed; matched = suc (r .matched); removed = r .removed; errors = r .errors }
-withVisit Verdict.Removed r = record { missed = r .missed; matched = r .matched; removed = suc (r .removed); errors = r .errors }
-withVisit Verdict.Error r = record { missed = r .missed; matched = r .matched; removed = r .removed; errors = suc (r .errors) }
+abbrev pub sameVerdict : Verdict → Verdict → Bool
+sameVerdict Verdict.Missed Verdict.Missed = true
+sameVerdict Verdict.Missed Verdict.Matched = false
+sameVerdict Verdict.Missed Verdict.Removed = false
+sameVerdict Verdict.Missed Verdict.Error = false
+sameVerdict Verdict.Matched Verdict.Missed = false
+sameVerdict Verdict.Matched Verdict.Matched = true
+sameVerdict Verdict.Matched Verdict.Removed = false
+sameVerdict Verdict.Matched Verdict.Error = false
+sameVerdict Verdict.Removed Verdict.Missed = false
+sameVerdict Verdict.Removed Verdict.Matched = false
+sameVerdict Verdict.Removed Verdict.Removed = true
+sameVerdict Verdict.Removed Verdict.Error = false
+sameVerdict Verdict.Error Verdict.Missed = false
+sameVerdict Verdict.Error Verdict.Matched = false
+sameVerdict Verdict.Error Verdict.Removed = false
+sameVerdict Verdict.Error Verdict.Error = true
+
+-- the visits that found a verdict
+abbrev pub visitsWith : Verdict → List Visit → ℕ
+visitsWith verdict vs = total (λ v. cond (sameVerdict verdict (v .verdict)) 1 0) vs
 
 abbrev pub reportBy : List Visit → Report
-reportBy [] = noReport
-reportBy (v ∷ vs) = withVisit (v .verdict) (reportBy vs)
+reportBy vs = record {
+  missed = visitsWith Verdict.Missed vs;
+  matched = visitsWith Verdict.Matched vs;
+  removed = visitsWith Verdict.Removed vs;
+  errors = visitsWith Verdict.Error vs;
+}
 
 -- BY A JOURNAL
 

@@ -180,7 +180,7 @@ module _ {M : Type 1} (𝓤 : URA M) (H : Heap 𝓤) (A : Atoms 𝓤) (W : Given
       → Sq W (‵ (cellAt fullShare (T.the-row .mir) (mach h ∷ []) b o) ∷ ‵ (fobor κ0 q0 (Body (mem T.the-row) b o γ)) ∷ ‵ (fobs γ (T.the-row .coded .code h)) ∷ ‵ (fauth γ (T.the-row .coded .code h)) ∷ ‵ (flft κ1 q1) ∷ ‵ (flft κ2 q2) ∷ ‵ (flft κ3 q3) ∷ ‵ (flft κ4 q4) ∷ ‵ (flft κ5 q5) ∷ ‵ (flft κ6 q6) ∷ ‵ (flft κ7 q7) ∷ ‵ (flft κ8 q8) ∷ ‵ (finally u64 (x-ids .name) zs-ids) ∷ ‵ (finally u64 (x-entries .name) zs-entries) ∷ ‵ (finally u64 (x-journal .name) zs-journal) ∷ ‵ (fat fullShare τ19 l19 0 v19) ∷ ‵ (fdies τ19 l19) ∷ ‵ (fat fullShare τ18 l18 0 v18) ∷ ‵ (fdies τ18 l18) ∷ ‵ (fat fullShare τ17 l17 0 v17) ∷ ‵ (fdies τ17 l17) ∷ ‵ (fat fullShare τ16 l16 0 v16) ∷ ‵ (fdies τ16 l16) ∷ ‵ (fat fullShare τ15 l15 0 v15) ∷ ‵ (fdies τ15 l15) ∷ ‵ (fat fullShare τ14 l14 0 v14) ∷ ‵ (fdies τ14 l14) ∷ ‵ (fat fullShare τ13 l13 0 v13) ∷ ‵ (fdies τ13 l13) ∷ ‵ (fat fullShare (lone (P.the-row .mir)) l12 0 (back r)) ∷ ‵ (fdies (lone (P.the-row .mir)) l12) ∷ ‵ (fat fullShare τ11 l11 0 v11) ∷ ‵ (fdies τ11 l11) ∷ ‵ (fat fullShare τ10 l10 0 v10) ∷ ‵ (fdies τ10 l10) ∷ ‵ (fat fullShare τ9 l9 0 v9) ∷ ‵ (fdies τ9 l9) ∷ ‵ (fat fullShare τ8 l8 0 v8) ∷ ‵ (fdies τ8 l8) ∷ ‵ (fat fullShare τ7 l7 0 v7) ∷ ‵ (fdies τ7 l7) ∷ ‵ (fat fullShare τ6 l6 0 v6) ∷ ‵ (fdies τ6 l6) ∷ ‵ (fat fullShare τ5 l5 0 v5) ∷ ‵ (fdies τ5 l5) ∷ ‵ (fat fullShare τ4 l4 0 v4) ∷ ‵ (fdies τ4 l4) ∷ ‵ (fat fullShare τ3 l3 0 v3) ∷ ‵ (fdies τ3 l3) ∷ ‵ (fat fullShare τ2 l2 0 v2) ∷ ‵ (fdies τ2 l2) ∷ ‵ (fat fullShare τ1 l1 0 (vptr b o)) ∷ ‵ (fdies τ1 l1) ∷ ‵ (froom (lone (Q.the-row .mir)) l0 0) ∷ ‵ (fdies (lone (Q.the-row .mir)) l0) ∷ [])
       (runs C Λ ((lone (Q.the-row .mir), l0) ∷ (τ1, l1) ∷ (τ2, l2) ∷ (τ3, l3) ∷ (τ4, l4) ∷ (τ5, l5) ∷ (τ6, l6) ∷ (τ7, l7) ∷ (τ8, l8) ∷ (τ9, l9) ∷ (τ10, l10) ∷ (τ11, l11) ∷ (lone (P.the-row .mir), l12) ∷ (τ13, l13) ∷ (τ14, l14) ∷ (τ15, l15) ∷ (τ16, l16) ∷ (τ17, l17) ∷ (τ18, l18) ∷ (τ19, l19) ∷ []) code-mir.t-10 (atRet ((lone (Q.the-row .mir), l0) ∷ (τ1, l1) ∷ (τ2, l2) ∷ (τ3, l3) ∷ (τ4, l4) ∷ (τ5, l5) ∷ (τ6, l6) ∷ (τ7, l7) ∷ (τ8, l8) ∷ (τ9, l9) ∷ (τ10, l10) ∷ (τ11, l11) ∷ (lone (P.the-row .mir), l12) ∷ (τ13, l13) ∷ (τ14, l14) ∷ (τ15, l15) ∷ (τ16, l16) ∷ (τ17, l17) ∷ (τ18, l18) ∷ (τ19, l19) ∷ []) Post))
   stored C Λ {l0 = l0} r zs-ids zs-entries zs-journal is e l-ids l-entries l-journal =
-      assigns ! (of-opd ! (load ! (from ! (fld ! {τ = lone (T.the-row .mir)} {d = 56} refl (stop !))) (look-in ! 29 (sub ! 1 {τ = lone (T.the-row .mir)} {d = 56} refl (whole !))))) (from ! (hop ! (look ! 51 refl) (stop !))) (store-raw ! 0 refl (LL.lawful T.the-type T′.the-laws 𝓤 H A W .typed (r .transaction) _ (LL.owed P.the-type P′.the-laws r _ is .1 .0) .0)) $
+      assigns ! (of-opd ! (load ! (from ! (fld ! {τ = lone (T.the-row .mir)} refl (stop !))) (look-in ! 29 (sub ! 1 {τ = lone (T.the-row .mir)} refl (whole !))))) (from ! (hop ! (look ! 51 refl) (stop !))) (store-raw ! 0 refl (LL.lawful T.the-type T′.the-laws 𝓤 H A W .typed (r .transaction) _ (LL.owed P.the-type P′.the-laws r _ is .1 .0) .0)) $
       assigns ! (of-opd ! (load ! (from ! (fld ! {τ = lone (Q.the-row .mir)} {d = 0} refl (stop !))) (look-in ! 29 (sub ! 0 {τ = lone (Q.the-row .mir)} {d = 0} refl (whole !))))) (from ! (stop !)) (init ! 53 {τ = lone (Q.the-row .mir)} {b = l0} {o = 0} {v = LL.val Q.the-type Q′.the-laws (r .answer)} refl (LL.lawful Q.the-type Q′.the-laws 𝓤 H A W .typed (r .answer) _ (LL.owed P.the-type P′.the-laws r _ is .0) .0)) $
       owned ! T.the-row (Is T.the-row) (LL.makes T.the-type T′.the-plain 𝓤 H A) (r .transaction) _ (LL.owed P.the-type P′.the-laws r _ is .1 .0) $ move ! (1 ∷ 0 ∷ 2 ∷ 3 ∷ 4 ∷ []) $ closes ! tt T.the-row (r .transaction) (mach (r .transaction) ∷ []) b o $
       returns ! (look ! 52 refl) $
