@@ -52,14 +52,13 @@ pub record HostRan (h : HostTransaction) (g : Given) (l : LentLists) (a : Answer
   -- a number is not known
   pub refused : known h ≡ false → Refused h (callOf g (fromHost h) l) l a h′ l′
 
--- what the record counts, and how many entries lists of so many numbers have: four to a data entry, two to an entry of the journal
-abbrev pub sizesOf : HostTransaction → ℕ → ℕ → ℕ → Sizes
-sizesOf h ids entries journal = record {
+-- what the record counts, and how many entries lists of so many numbers have: four to a data entry
+abbrev pub sizesOf : HostTransaction → ℕ → ℕ → Sizes
+sizesOf h ids entries = record {
   ranges = h .controls .ranges;
   targets = h .controls .targets;
   «ids_used» = h .ids;
   «entries_used» = h .entries;
   ids = ids;
   entries = entries / 4;
-  journal = journal / 2;
 }

@@ -126,8 +126,8 @@ fn counts_of(rules: usize, actions: usize, words: usize, bytes: usize, outcomes:
 }
 
 // What the record counts, and how many entries lists of so many numbers have.
-fn sizes_of(h: HostTransaction, ids: usize, entries: usize, journal: usize) -> Sizes
-    ensures { λ r. ⌜ r ≡ sizesOf h ids entries journal ⌝ }
+fn sizes_of(h: HostTransaction, ids: usize, entries: usize) -> Sizes
+    ensures { λ r. ⌜ r ≡ sizesOf h ids entries ⌝ }
 {
     Sizes {
         ranges: h.controls.ranges as usize,
@@ -136,7 +136,6 @@ fn sizes_of(h: HostTransaction, ids: usize, entries: usize, journal: usize) -> S
         entries_used: h.entries as usize,
         ids,
         entries: entries / widths::DATA_ENTRY,
-        journal: journal / widths::JOURNAL_ENTRY,
     }
 }
 
@@ -189,7 +188,7 @@ pub fn host_phase(
             text.len(),
             outcomes.len(),
         );
-        let sizes = sizes_of(h, ids.len(), entries.len(), journal.len());
+        let sizes = sizes_of(h, ids.len(), entries.len());
         return as_lent(unknown_answer(call, counts, sizes), h);
     }
     let t = from_host(h);

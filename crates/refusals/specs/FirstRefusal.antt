@@ -8,8 +8,9 @@ use Rattle.reading.specs.Call.{Call, Transaction, Lists}
 use Rattle.reading.specs.Refusals.{refused1, refused2, refused3, refused4, refused5, refused6, refused7}
 use Rattle.refusals.specs.declared.first.Counts.{Counts}
 use Rattle.refusals.specs.declared.first.Sizes.{Sizes}
+use Rattle.refusals.specs.declared.first.Room.{Room}
 
--- a transaction and lists of these sizes
+-- a transaction of these sizes, with the lists that it counts
 pub record Sized (t : Transaction) (lists : Lists) (sizes : Sizes) : Type 0 where
   pub ranges : length (t .controls .ranges) ≡ sizes .ranges
   pub targets : length (t .controls .targets) ≡ sizes .targets
@@ -17,9 +18,12 @@ pub record Sized (t : Transaction) (lists : Lists) (sizes : Sizes) : Type 0 wher
   pub entries-used : t .data-entries ≡ sizes .«entries_used»
   pub ids : length (lists .ids) ≡ sizes .ids
   pub entries : length (lists .data-entries) ≡ sizes .entries
-  pub journal : length (lists .journal) ≡ sizes .journal
 
--- a call with these settings, whose lists and transaction have these sizes
+-- lists with this room for what begins empty in each call
+pub record Roomed (lists : Lists) (room : Room) : Type 0 where
+  pub journal : length (lists .journal) ≡ room .journal
+
+-- a call with these settings, whose lists to read and transaction have these sizes
 pub record Counted (q : Call) (call : CallSettings) (counts : Counts) (sizes : Sizes) : Type 0 where
   pub settings-are : q .given .settings ≡ call
   pub rules : length (q .given .rules) ≡ counts .rules

@@ -17,7 +17,7 @@ ghost use Rattle.reading.specs.Limits.{mostRanges, mostTargets};
 ghost use Rattle.reading.specs.Records.{ruleList, actionList, markerList, givenOf};
 ghost use Rattle.reading.specs.Refusals.{badRule, badAction, badMarker, badOutcome};
 ghost use Rattle.reading.specs.Call.{Call, Transaction, Lists};
-ghost use Rattle.refusals.specs.FirstRefusal.{Sized, Counted, firstOfFour, firstOfSeven};
+ghost use Rattle.refusals.specs.FirstRefusal.{Sized, Roomed, Counted, firstOfFour, firstOfSeven};
 
 // How many records, text bytes and outcomes a call lends.
 pub struct Counts {
@@ -28,7 +28,7 @@ pub struct Counts {
     pub outcomes: usize,
 }
 
-// What the transaction counts, and how many entries the lists have that are written.
+// What the transaction counts, and how many entries the lists have that it counts.
 pub struct Sizes {
     pub ranges: usize,
     pub targets: usize,
@@ -36,6 +36,10 @@ pub struct Sizes {
     pub entries_used: usize,
     pub ids: usize,
     pub entries: usize,
+}
+
+// How many entries the lists have that begin empty in each call.
+pub struct Room {
     pub journal: usize,
 }
 
@@ -139,9 +143,9 @@ fn is_short(entries: usize, used: usize, needed: usize) -> bool
 }
 
 // Refusal 7: a list with fewer free entries than there are rules.
-fn has_no_room(sizes: Sizes, rules: usize) -> bool
+fn has_no_room(sizes: Sizes, room: Room, rules: usize) -> bool
     ensures { λ r. ⌜ r ≡ (ltb (sizes .ids) (sizes .«ids_used» + rules)
-        || ltb (sizes .entries) (sizes .«entries_used» + rules) || ltb (sizes .journal) rules) ⌝ }
+        || ltb (sizes .entries) (sizes .«entries_used» + rules) || ltb (room .journal) rules) ⌝ }
 {
     if is_short(sizes.ids, sizes.ids_used, rules) {
         return true;
@@ -149,7 +153,7 @@ fn has_no_room(sizes: Sizes, rules: usize) -> bool
     if is_short(sizes.entries, sizes.entries_used, rules) {
         return true;
     }
-    sizes.journal < rules
+    room.journal < rules
 }
 
 // The number of the first refusal of 1 to 7 that applies, else 0.
@@ -161,8 +165,9 @@ pub fn first_refusal(
     text: &[u8],
     outcomes: &[u8],
     sizes: Sizes,
+    room: Room,
 ) -> u64
-    ensures { λ r. ⌜ ((t : Transaction) (lists : Lists) → Sized t lists sizes
+    ensures { λ r. ⌜ ((t : Transaction) (lists : Lists) → Sized t lists sizes → Roomed lists room
         → r ≡ firstOfSeven (record {
           given = givenOf call (now (rules .entry)) (now (actions .entry)) (markerList (now (markers .entry))) (now (text .entry)) (now (outcomes .entry));
           transaction = t;
@@ -188,7 +193,7 @@ pub fn first_refusal(
     if high_bytes::has_high_byte(text) {
         return 6;
     }
-    if has_no_room(sizes, n) {
+    if has_no_room(sizes, room, n) {
         return 7;
     }
     0

@@ -8,7 +8,7 @@ use native.Mathlib.Nat.{sub-zero}
 use lib.ListN.{length, take, drop, length-append, take-append-drop}
 use lib.Seq.{length-take-le, drop-drop}
 use Rattle.reading.specs.declared.OptionIntervention.{OptionIntervention}
-use Rattle.reading.specs.Records.{lent, dataWords, journalWords, matchedIn}
+use Rattle.reading.specs.Records.{dataWords, journalWords, matchedIn}
 use Rattle.reading.specs.Controls.{isOff}
 use Rattle.reading.specs.Controls as reading
 use Rattle.reading.specs.Call.{Given, ruleCount, modeUnder}
@@ -24,7 +24,7 @@ use Rattle.unit.specs.declared.visit.State.{State}
 use Rattle.unit.specs.VisitRule.{entryBy}
 use Rattle.intervention.specs.declared.decide.Ending.{Ending}
 use Rattle.transaction.specs.declared.types.Transaction.{Transaction}
-use Rattle.transaction.specs.WalkRules.{visitsFrom, Ready, isErrs, isAllows, endedBy, Walked}
+use Rattle.transaction.specs.WalkRules.{walkLists, visitsFrom, Ready, isErrs, isAllows, endedBy, Walked}
 use Rattle.transaction.proofs.Turns.{walk-end, ids-append, data-append}
 use Rattle.transaction.proofs.Turns.{controls-append, Going, answer-after, error-after}
 use Rattle.transaction.proofs.Turns.{allowed-after, intervention-after, walk-grows}
@@ -59,7 +59,7 @@ pub record Sofar (q : Given) (t : Transaction) (ids₀ entries₀ journal₀ : L
   pub ahead : visits ≤ s .next
 
 pub sofar-none : (q : Given) (t : Transaction) (codes ids entries journal : List ℕ)
-    → Ready q t codes (lent ids entries journal)
+    → Ready q t codes (walkLists ids entries journal)
     → Sofar q t ids entries journal ids entries journal (t .controls) (record { next = 0; chained = false; first = 0 }) 0 (t .ids)
     (t .entries)
 sofar-none q t codes ids entries journal ready =
@@ -85,7 +85,7 @@ sofar-none q t codes ids entries journal ready =
 
 -- ROOM AND LENGTHS
 
-module _ (q : Given) (t : Transaction) (codes ids₀ entries₀ journal₀ : List ℕ) (ready : Ready q t codes (lent ids₀ entries₀ journal₀))
+module _ (q : Given) (t : Transaction) (codes ids₀ entries₀ journal₀ : List ℕ) (ready : Ready q t codes (walkLists ids₀ entries₀ journal₀))
     (done rest : List Visit) (whole : visitsFrom q t ≡ done ++ rest) where
   visits-room : length done + length rest ≤ ruleCount q
   visits-room = omega (arith, length-append done rest, ap length whole, ready .visits-few)
@@ -151,7 +151,7 @@ module _ (q : Given) (t : Transaction) (codes ids₀ entries₀ journal₀ : Lis
         (omega (arith, entries-inside)))
 
 -- the lists at the head of a turn, and the ranges that are held
-module _ (q : Given) (t : Transaction) (codes ids₀ entries₀ journal₀ : List ℕ) (ready : Ready q t codes (lent ids₀ entries₀ journal₀))
+module _ (q : Given) (t : Transaction) (codes ids₀ entries₀ journal₀ : List ℕ) (ready : Ready q t codes (walkLists ids₀ entries₀ journal₀))
     (ids entries journal : List ℕ) (c : Controls) (s : State) (visits listed written : ℕ)
     (so : Sofar q t ids₀ entries₀ journal₀ ids entries journal c s visits listed written) where
   abbrev left : List Visit
@@ -194,7 +194,7 @@ pub finished : (q : Given) (t : Transaction) (ids₀ entries₀ journal₀ ids e
     → Became (t .controls) c (controlsAfter (controlsOf (t .controls)) (visitsFrom q t))
     → cond (isErrs e) 10 0 ≡ answerBy (visitsFrom q t) → cond (isErrs e) last 0 ≡ errorIndexBy (visitsFrom q t)
     → isAllows e ≡ allowedBy (visitsFrom q t) → stop ≡ interventionBy (visitsFrom q t)
-    → Walked q t (lent ids₀ entries₀ journal₀) (endedBy e last visits listed written stop c) (lent ids entries journal)
+    → Walked q t (walkLists ids₀ entries₀ journal₀) (endedBy e last visits listed written stop c) (walkLists ids entries journal)
 finished q t ids₀ entries₀ journal₀ ids entries journal c visits listed written last e stop w b a x l i =
     record {
       answer = a;
@@ -224,8 +224,8 @@ finished q t ids₀ entries₀ journal₀ ids entries journal c visits listed wr
 pub sofar-end : (q : Given) (t : Transaction) (ids₀ entries₀ journal₀ ids entries journal : List ℕ) (c : Controls) (s : State)
     (visits listed written : ℕ)
     → Sofar q t ids₀ entries₀ journal₀ ids entries journal c s visits listed written → ruleCount q ≤ s .next
-    → Walked q t (lent ids₀ entries₀ journal₀) (endedBy Ending.GoesOn 0 visits listed written OptionIntervention.None c)
-    (lent ids entries journal)
+    → Walked q t (walkLists ids₀ entries₀ journal₀) (endedBy Ending.GoesOn 0 visits listed written OptionIntervention.None c)
+    (walkLists ids entries journal)
 sofar-end q t ids₀ entries₀ journal₀ ids entries journal c s visits listed written so h =
     let e : visitsFrom q t ≡ so .done ++ [] =
     rw (← walk-end (ruleCount q - visits) q (record { next = s .next; members = so .members; controls = controlsOf c }) h)

@@ -37,7 +37,7 @@ use Rattle.refusals.proofs.first.LentLaws.{one-same, one-past}
 use Rattle.transaction.specs.declared.types.Transaction.{Transaction}
 use Rattle.transaction.specs.declared.types.Phase.{Phase}
 use Rattle.transaction.specs.RunPhase.{transactionOf, callOf, answerWithout, outcomeFound, Ran}
-use Rattle.transaction.specs.WalkRules.{fresh, visitsFrom, Ready, Walked}
+use Rattle.transaction.specs.WalkRules.{listsOfWalk, fresh, visitsFrom, Ready, Walked}
 
 -- THE FIRST REFUSAL, BY ITS PARTS
 
@@ -192,7 +192,7 @@ module _ (g : Given) (t : Transaction) (l : LentLists) where
     unfolding outcomeOf
     controls-are = ap (λ (vs : List Visit). controlsAfter (controlsOf (t .controls)) vs) visits-are
 
-    pub ready-of : (codes : List ℕ) → codes ≡ over (replicate 4096 0) (codesOf (g .text) (g .actions)) → Ready g t codes l
+    pub ready-of : (codes : List ℕ) → codes ≡ over (replicate 4096 0) (codesOf (g .text) (g .actions)) → Ready g t codes (listsOfWalk l)
     ready-of codes coded =
         let p : Passed q = passed q e in
         let f : Free q = not-seventh q (p .seventh) in
@@ -212,7 +212,7 @@ module _ (g : Given) (t : Transaction) (l : LentLists) where
           not-off = busy g entry h .not-off;
         }
 
-    module _ (r : Phase) (l′ : LentLists) (w : Walked g t l r l′) where
+    module _ (r : Phase) (l′ : LentLists) (w : Walked g t (listsOfWalk l) r (listsOfWalk l′)) where
       abbrev vs : List Visit
       vs = visitsFrom g t
 

@@ -24,11 +24,11 @@ use Rattle.apply.specs.Codes.{codesOf}
 use Rattle.refusals.specs.Totals.{limitRefusal}
 use Rattle.refusals.proofs.totals.Refused.{limit-is, codes-fit, codes-front}
 use Rattle.refusals.specs.declared.first.Sizes.{Sizes}
-use Rattle.refusals.specs.FirstRefusal.{Sized, firstOfSeven}
+use Rattle.refusals.specs.FirstRefusal.{Sized, Roomed, firstOfSeven}
 use Rattle.transaction.specs.declared.types.Transaction.{Transaction}
 use Rattle.transaction.specs.declared.types.Phase.{Phase}
 use Rattle.transaction.specs.RunPhase.{callOf, answerWithout, Ran}
-use Rattle.transaction.specs.WalkRules.{fresh, Ready, Walked}
+use Rattle.transaction.specs.WalkRules.{listsOfWalk, fresh, Ready, Walked}
 use Rattle.transaction.proofs.Promise.{few-of-seven, seven-first, past-seven, ran-refused, ran-idle}
 use Rattle.transaction.proofs.Promise.{busy, fresh-is, ready-of, visited-within, ran-walked}
 use Rattle.transaction.proofs.Promise.{length-data-list, length-journal-list}
@@ -62,7 +62,6 @@ module _ (g : Lent) where
     «entries_used» = g .t .entries;
     ids = length (g .lists .ids);
     entries = length (g .lists .entries) / 4;
-    journal = length (g .lists .journal) / 2;
   }
 
   pub sized-so : Sized (q .transaction) (q .lists) sizesOf
@@ -73,8 +72,10 @@ module _ (g : Lent) where
     entries-used = refl;
     ids = refl;
     entries = length-data-list (g .lists .entries);
-    journal = length-journal-list (g .lists .journal);
   }
+
+  pub roomed-so : Roomed (q .lists) (record { journal = length (g .lists .journal) / 2 })
+  roomed-so = record { journal = length-journal-list (g .lists .journal) }
 
   -- that nothing is to do
   pub idle-is : (set : RuleEngineMode) (b : Bool) → set ≡ modeOfNumber (g .call .mode)
@@ -138,13 +139,13 @@ module _ (g : Lent) where
     is-new = let b = busy (q .given) (q .transaction) h in fresh-is (g .t) (b .unallowed) (b .unstopped)
 
     pub ready-at : (c : List ℕ) → c ≡ over (replicate 4096 0) (codesOf (g .text) (actionList (g .actions)))
-        → Ready (givenIn g) (fresh (g .t)) c (g .lists)
+        → Ready (givenIn g) (fresh (g .t)) c (listsOfWalk (g .lists))
     ready-at c e =
-        subst (λ (x : Transaction). Ready (givenIn g) x c (g .lists)) is-new (ready-of (givenIn g) (g .t) (g .lists) a h c e)
+        subst (λ (x : Transaction). Ready (givenIn g) x c (listsOfWalk (g .lists))) is-new (ready-of (givenIn g) (g .t) (g .lists) a h c e)
 
-    module _ (r : Phase) (l : LentLists) (w : Walked (givenIn g) (fresh (g .t)) (g .lists) r l) where
-      walked : Walked (givenIn g) (g .t) (g .lists) r l
-      walked = subst (λ (x : Transaction). Walked (givenIn g) x (g .lists) r l) (sym is-new) w
+    module _ (r : Phase) (l : LentLists) (w : Walked (givenIn g) (fresh (g .t)) (listsOfWalk (g .lists)) r (listsOfWalk l)) where
+      walked : Walked (givenIn g) (g .t) (listsOfWalk (g .lists)) r (listsOfWalk l)
+      walked = subst (λ (x : Transaction). Walked (givenIn g) x (listsOfWalk (g .lists)) r (listsOfWalk l)) (sym is-new) w
 
       pub visited-at : 2 * r .answer .visits ≤ length (l .journal)
       visited-at = visited-within (givenIn g) (g .t) (g .lists) a h r l walked

@@ -21,7 +21,7 @@ use Rattle.reading.specs.Lists.{keep, over, gather}
 use Rattle.reading.specs.Numbers.{verdictNumber}
 use Rattle.reading.specs.Outcome.{atFreeEnd}
 use Rattle.reading.specs.Reading.{rust}
-use Rattle.reading.specs.Records.{lent, dataWords, journalWords, journalList, matchedIn, ruleList}
+use Rattle.reading.specs.Records.{dataWords, journalWords, journalList, matchedIn, ruleList}
 use Rattle.reading.specs.Controls.{isOff, isOn}
 use Rattle.reading.specs.Walk as defined
 use Rattle.reading.specs.Walk.{givesAllow, isError}
@@ -59,7 +59,7 @@ use Rattle.transaction.specs.declared.types.Transaction.{Transaction}
 use Rattle.transaction.specs.declared.types.WalkState.{WalkState}
 use Rattle.transaction.specs.declared.types.End.{End}
 use Rattle.transaction.specs.declared.types.AfterUnit.{AfterUnit}
-use Rattle.transaction.specs.WalkRules.{visitsFrom, Ready, isGoing, isErrs, isAllows, endedBy, Walked}
+use Rattle.transaction.specs.WalkRules.{walkLists, visitsFrom, Ready, isGoing, isErrs, isAllows, endedBy, Walked}
 use Rattle.transaction.specs.WalkRules.{Room, movedBy, leftBy, UnitClosed}
 use Rattle.transaction.proofs.Turns.{walk-step, walk-off, walk-clip, journal-more, ids-append, data-append, controls-append}
 use Rattle.transaction.proofs.Turns.{going-more, answer-after, error-after, allowed-after, intervention-after}
@@ -165,7 +165,7 @@ pub record Turning : Type 0 where
   pub ids₀ : List ℕ
   pub entries₀ : List ℕ
   pub journal₀ : List ℕ
-  pub ready : Ready q t codes (lent ids₀ entries₀ journal₀)
+  pub ready : Ready q t codes (walkLists ids₀ entries₀ journal₀)
   pub reading : q .reading ≡ rust
   pub ids : List ℕ
   pub entries : List ℕ
@@ -201,7 +201,7 @@ module _ (turn : Turning) where
   abbrev journal₀ : List ℕ
   journal₀ = turn .journal₀
 
-  abbrev ready : Ready q t codes (lent ids₀ entries₀ journal₀)
+  abbrev ready : Ready q t codes (walkLists ids₀ entries₀ journal₀)
   ready = turn .ready
 
   abbrev reading : q .reading ≡ rust
@@ -610,8 +610,8 @@ module _ (turn : Turning) where
         sofar-last : (last : ℕ) → cond (isErrs e) last 0 ≡ cond (isErrs e) (s .next) 0
             → (stop : OptionIntervention) → stop ≡ interventionAtEnd e (unitIntervention q part)
             → (not (isGoing e) || isOff (modeUnder q (controlsOf c′))) ≡ true
-            → Walked q t (lent ids₀ entries₀ journal₀)
-            (endedBy e last (visits + 1) (listed + u .ids) (written + u .entries) stop c′) (lent ids′ entries′ journal′)
+            → Walked q t (walkLists ids₀ entries₀ journal₀)
+            (endedBy e last (visits + 1) (listed + u .ids) (written + u .entries) stop c′) (walkLists ids′ entries′ journal′)
         sofar-last last last-is-so stop stop-is h =
             let d : visitsFrom q t ≡ done′ =
             step ∙ ap (λ (l : List Visit). so .done ++ (v ∷ l))
@@ -732,8 +732,8 @@ module _ (turn : Turning) where
 
     -- A RULE ERROR
     pub sofar-error : visit.isError found ≡ true
-        → Walked q t (lent ids₀ entries₀ journal₀) (endedBy Ending.Errs (s .next) (visits + 1) listed written OptionIntervention.None c)
-        (lent ids entries journal′)
+        → Walked q t (walkLists ids₀ entries₀ journal₀) (endedBy Ending.Errs (s .next) (visits + 1) listed written OptionIntervention.None c)
+        (walkLists ids entries journal′)
     sofar-error h =
         rw (take-append-drop listed ids, take-append-drop (4 * written) entries, add-zero listed, add-zero written) at
         (sofar-last (nothing (w .after .next)) (drop listed ids) (drop (4 * written) entries) (gave-nothing unclosed) c (controls-same unclosed)
@@ -814,16 +814,16 @@ module _ (turn : Turning) where
                 (fewer-left u (x .free-ids) (x .free-entries) gave n h)
 
           pub walked-closed : (end : End) → r ≡ AfterUnit.Ends end
-              → Walked q t (lent ids₀ entries₀ journal₀)
+              → Walked q t (walkLists ids₀ entries₀ journal₀)
               (endedBy (end .ending) (end .at .state .next) (end .at .visits) (end .at .ids) (end .at .entries) (end .stop)
-              (structOf (end .at .counts) starts₁ ends₁ phases₁ positions₁)) (lent ids₁ entries₁ journal′)
+              (structOf (end .at .counts) starts₁ ends₁ phases₁ positions₁)) (walkLists ids₁ entries₁ journal′)
           walked-closed end ends-so =
               let l = left-end (not (isGoing e) || isOff mode) e (movedBy at u (x .counts)) (interventionAtEnd e (unitIntervention q part)) end
               (sym (x .left-is) ∙ ends-so) in
               rw (x .ids-are, x .entries-are)
-              (subst (λ (y : End). Walked q t (lent ids₀ entries₀ journal₀)
+              (subst (λ (y : End). Walked q t (walkLists ids₀ entries₀ journal₀)
               (endedBy (y .ending) (y .at .state .next) (y .at .visits) (y .at .ids) (y .at .entries) (y .stop)
-              (structOf (y .at .counts) starts₁ ends₁ phases₁ positions₁)) (lent (take listed ids ++ x .free-ids)
+              (structOf (y .at .counts) starts₁ ends₁ phases₁ positions₁)) (walkLists (take listed ids ++ x .free-ids)
               (take (4 * written) entries ++ x .free-entries) journal′)) (l .1)
               (sofar-last u (x .free-ids) (x .free-entries) gave c₁ became-unit e end-now (u .next)
               (no-index (u .next) (s .next) (isAllow (u .disruptive)) (isStopping (u .disruptive) && isOn mode))
@@ -837,7 +837,7 @@ pub past-rules : (rules : List ℕ) (i : ℕ) → length rules / 5 ≤ i → len
 past-rules rules i h = omega (arith, length-rules rules)
 
 -- room in the journal for the visit to come
-pub journal-ahead : (q : Given) (t : Transaction) (codes ids₀ entries₀ journal₀ : List ℕ) → Ready q t codes (lent ids₀ entries₀ journal₀)
+pub journal-ahead : (q : Given) (t : Transaction) (codes ids₀ entries₀ journal₀ : List ℕ) → Ready q t codes (walkLists ids₀ entries₀ journal₀)
     → q .reading ≡ rust → (ids entries journal : List ℕ) (c : Controls) (s : State) (visits listed written : ℕ)
     → Sofar q t ids₀ entries₀ journal₀ ids entries journal c s visits listed written → s .next < ruleCount q
     → 2 * visits + 2 ≤ length journal

@@ -36,12 +36,25 @@ use Rattle.transaction.specs.RunPhase.{transactionOf}
 abbrev pub fresh : Transaction → Transaction
 fresh t = record { controls = t .controls; allowed = false; intervention = OptionIntervention.None; ids = t .ids; entries = t .entries }
 
+-- the lists that the walk writes, as numbers
+pub record WalkLists : Type 0 where
+  pub ids : List ℕ
+  pub entries : List ℕ
+  pub journal : List ℕ
+
+abbrev pub walkLists : List ℕ → List ℕ → List ℕ → WalkLists
+walkLists ids entries journal = record { ids = ids; entries = entries; journal = journal }
+
+-- those of a call
+abbrev pub listsOfWalk : LentLists → WalkLists
+listsOfWalk l = walkLists (l .ids) (l .entries) (l .journal)
+
 -- all visits from the first rule on
 abbrev pub visitsFrom : Given → Transaction → List Visit
 visitsFrom g t = walk (ruleCount g) g (start (transactionOf t))
 
 -- an accepted call with something to do: what the walk needs of it. `codes` are the actions' codes.
-pub record Ready (g : Given) (t : Transaction) (codes : List ℕ) (l : LentLists) : Type 0 where
+pub record Ready (g : Given) (t : Transaction) (codes : List ℕ) (l : WalkLists) : Type 0 where
   pub outcomes : length (g .outcomes) ≡ ruleCount g
   pub actions : length (g .actions) ≤ 4096
   pub digested : codes ≡ over (replicate 4096 0) (codesOf (g .text) (g .actions))
@@ -84,7 +97,7 @@ endedBy e last visits ids entries stop c = record {
 }
 
 -- of a transaction without allow and intervention
-pub record Walked (g : Given) (t : Transaction) (l : LentLists) (r : Phase) (l′ : LentLists) : Type 0 where
+pub record Walked (g : Given) (t : Transaction) (l : WalkLists) (r : Phase) (l′ : WalkLists) : Type 0 where
   pub answer : r .answer .answer ≡ answerBy (visitsFrom g t)
   pub error : r .answer .error ≡ errorIndexBy (visitsFrom g t)
   pub visits : r .answer .visits ≡ length (visitsFrom g t)

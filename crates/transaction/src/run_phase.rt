@@ -9,6 +9,7 @@ use reading::CallSettings;
 use reading::limits;
 use reading::widths;
 use refusals::first;
+use refusals::first::Room;
 use refusals::first::Sizes;
 use refusals::totals;
 use report::verdicts;
@@ -29,7 +30,7 @@ fn as_lent(answer: u64, t: Transaction) -> Phase
 }
 
 // What the transaction counts, and how many entries lists of so many numbers have.
-fn sizes_of(t: Transaction, ids: usize, entries: usize, journal: usize) -> Sizes
+fn sizes_of(t: Transaction, ids: usize, entries: usize) -> Sizes
     ensures { λ r. ⌜ r ≡ record {
       ranges = t .controls .ranges;
       targets = t .controls .targets;
@@ -37,7 +38,6 @@ fn sizes_of(t: Transaction, ids: usize, entries: usize, journal: usize) -> Sizes
       «entries_used» = t .entries;
       ids = ids;
       entries = entries / 4;
-      journal = journal / 2;
     } ⌝ }
 {
     Sizes {
@@ -47,7 +47,6 @@ fn sizes_of(t: Transaction, ids: usize, entries: usize, journal: usize) -> Sizes
         entries_used: t.entries,
         ids,
         entries: entries / widths::DATA_ENTRY,
-        journal: journal / widths::JOURNAL_ENTRY,
     }
 }
 
@@ -70,8 +69,11 @@ pub fn run_phase(
 {
     let ranges = t.controls.ranges;
     let targets = t.controls.targets;
-    let sizes = sizes_of(t, ids.len(), entries.len(), journal.len());
-    let refusal = first::first_refusal(call, rules, actions, markers, text, outcomes, sizes);
+    let sizes = sizes_of(t, ids.len(), entries.len());
+    let room = Room {
+        journal: journal.len() / widths::JOURNAL_ENTRY,
+    };
+    let refusal = first::first_refusal(call, rules, actions, markers, text, outcomes, sizes, room);
     if refusal != 0 {
         return as_lent(refusal, t);
     }

@@ -28,12 +28,12 @@ ghost use lib.ListN.{length, getD};
 ghost use Rattle.reading.specs.Numbers.{verdictNumber, modeOfNumber};
 ghost use Rattle.reading.specs.Controls.{isRemoved, rangeList, modeOr};
 ghost use Rattle.reading.specs.Call.{noRule, recordId};
-ghost use Rattle.reading.specs.Records.{ruleList, markerList, journalList, matchedIn, givenOf, lent};
+ghost use Rattle.reading.specs.Records.{ruleList, markerList, journalList, matchedIn, givenOf};
 ghost use Rattle.reading.specs.declared.Marker.{Marker};
 ghost use Rattle.reading.specs.Walk.{verdictBy};
 ghost use Rattle.reading.specs.Outcome.{atFreeEnd};
 ghost use Rattle.unit.specs.VisitRule.{foundAt};
-ghost use Rattle.transaction.specs.WalkRules.{fresh, Ready, Walked, startOf, Room, leftUnder, UnitClosed};
+ghost use Rattle.transaction.specs.WalkRules.{walkLists, fresh, Ready, Walked, startOf, Room, leftUnder, UnitClosed};
 
 // Visits the rule that the walk stands at, under the held ranges, and writes it after the journal's entries.
 fn visit_next<'a>(
@@ -207,9 +207,9 @@ pub fn walk_rules(
     entries: &mut [u64],
     journal: &mut [u64],
 ) -> Phase
-    requires { ⌜ Ready (givenOf call (now rules) (now actions) (markerList (now markers)) (now text) (now outcomes)) (fresh t) (now codes) (lent (now ids) (now entries) (now journal)) ⌝ }
+    requires { ⌜ Ready (givenOf call (now rules) (now actions) (markerList (now markers)) (now text) (now outcomes)) (fresh t) (now codes) (walkLists (now ids) (now entries) (now journal)) ⌝ }
     ensures { λ r. ⌜ Walked (givenOf call (now (rules .entry)) (now (actions .entry)) (markerList (now (markers .entry))) (now (text .entry)) (now (outcomes .entry))) (fresh t)
-        (lent (now (ids .entry)) (now (entries .entry)) (now (journal .entry))) r (lent (now (ids .exit)) (now (entries .exit)) (now (journal .exit))) ⌝ }
+        (walkLists (now (ids .entry)) (now (entries .entry)) (now (journal .entry))) r (walkLists (now (ids .exit)) (now (entries .exit)) (now (journal .exit))) ⌝ }
 {
     let mut starts = t.controls.starts;
     let mut ends = t.controls.ends;

@@ -85,7 +85,7 @@ module _ (call : CallSettings) (rules actions words text outcomes : List ℕ) (h
   }
 
   abbrev sizesIn : Sizes
-  sizesIn = sizesOf h (length (l .ids)) (length (l .entries)) (length (l .journal))
+  sizesIn = sizesOf h (length (l .ids)) (length (l .entries))
 
   lent-counted : Counted lentCall call counts sizesIn
   unfolding fromHost controlsFromHost

@@ -26,7 +26,7 @@ use Rattle.reading.specs.Numbers.{modeNumber, modeSettingNumber, accessS
 use Rattle.reading.specs.Directive.{directiveOf, isSupported}
 use Rattle.reading.specs.Controls.{Controls, noControls, isRemoved}
 use Rattle.reading.specs.Reading.{Reading, rust}
-use Rattle.reading.specs.Call.{Call}
+use Rattle.reading.specs.Call.{Call, Lists}
 use Rattle.reading.specs.Units.{interventionIds}
 use Rattle.reading.specs.Replay.{replayedIds, replayedData, replayedControls, replayedAllow, replayedIntervention}
 use Rattle.reading.specs.Report.{reportOf}
@@ -240,6 +240,25 @@ callIn mode ws ms = callWith rust mode noControls false ws ms
 -- "Mode On .. unless said"
 abbrev pub call : List Written → List Named → Call
 call ws ms = callIn RuleEngineMode.On ws ms
+
+-- A CALL WITH OTHER LISTS
+
+abbrev pub withLent : Lists → Call → Call
+withLent lent q = record { given = q .given; transaction = q .transaction; lists = lent }
+
+abbrev pub withJournal : List JournalEntry → Call → Call
+withJournal journal q = withLent (record { ids = q .lists .ids; data-entries = q .lists .data-entries; journal = journal }) q
+
+abbrev pub withData : List DataEntry → Call → Call
+withData entries q = withLent (record { ids = q .lists .ids; data-entries = entries; journal = q .lists .journal }) q
+
+abbrev pub withIds : List ℕ → Call → Call
+withIds ids q = withLent (record { ids = ids; data-entries = q .lists .data-entries; journal = q .lists .journal }) q
+
+-- lists of so many entries
+abbrev pub withRoom : ℕ → ℕ → ℕ → Call → Call
+withRoom ids entries journal q =
+    withLent (record { ids = replicate ids 9; data-entries = replicate entries lentData; journal = replicate journal lentEntry }) q
 
 -- WHAT A ROW STATES
 

@@ -25,14 +25,14 @@ use Rattle.reading.specs.Controls.{Controls, noControls, isRemoved, beyo
 use Rattle.reading.specs.Actions.{actionsOf, lastOf, lastDisruptive, lastFlow, metadataOf, directiveIn}
 use Rattle.reading.specs.Markers.{markerPosition}
 use Rattle.reading.specs.Reading.{rust, manual}
-use Rattle.reading.specs.Call.{Given, Call, Lists, ruleAt, isLink, idAt, outcomeAt, actionsAt}
+use Rattle.reading.specs.Call.{Given, Call, ruleAt, isLink, idAt, outcomeAt, actionsAt}
 use Rattle.reading.specs.Refusals.{refused1, refused2, refused3, refused4, refused5, refused6, refused7, refused8, refused9, ruleTotal, refusalOf}
 use Rattle.reading.specs.Units.{ruleControls, unitFlow, unitDisruptive, unitIntervention}
 use Rattle.reading.specs.Walk.{verdictAt, afterChain, visitAt, walk, walkOf}
 use Rattle.reading.specs.Replay.{unitsOf, lastClosed}
 use Rattle.reading.specs.Report.{reportOf}
 use Rattle.reading.specs.Outcome.{visitsOf, outcomeOf}
-use Rattle.reading.specs.Cases.Build.{deny, block, pass, allow, drop, chain, multiMatch, redirect, skipAfter, msg, skip, id, status, ctl, Written, Named, Row, none, stopped, stoppedWith, Told, rowOf, row, removal, settling, switching, targeting, failing, refused, rule, link, noId, noIdLink, withOutcome, missed, inError, marker, callWith, callIn, call, nothing, matched, miss, removed, error, entry, noIdEntry, lentData, lentEntry, sameIds, sameVisits, sameData, sameStop, sameReport, holds, allHold}
+use Rattle.reading.specs.Cases.Build.{deny, block, pass, allow, drop, chain, multiMatch, redirect, skipAfter, msg, skip, id, status, ctl, Written, Named, Row, none, stopped, stoppedWith, Told, rowOf, row, removal, settling, switching, targeting, failing, refused, rule, link, noId, noIdLink, withOutcome, missed, inError, marker, callWith, callIn, call, withJournal, withData, withIds, withRoom, nothing, matched, miss, removed, error, entry, noIdEntry, lentData, lentEntry, sameIds, sameVisits, sameData, sameStop, sameReport, holds, allHold}
 
 -- WHAT IS HELD AT ENTRY
 
@@ -56,9 +56,6 @@ callManual ws ms = callWith manual RuleEngineMode.On noControls false ws ms
 
 abbrev withGiven : Given → Call → Call
 withGiven g q = record { given = g; transaction = q .transaction; lists = q .lists }
-
-abbrev withLent : Lists → Call → Call
-withLent lent q = record { given = q .given; transaction = q .transaction; lists = lent }
 
 -- other numbers, records and texts
 abbrev withSettings : CallSettings → Call → Call
@@ -100,21 +97,6 @@ abbrev withMarker : ℕ → ℕ → ℕ → Call → Call
 withMarker start len position q =
     withRecords (q .given .rules) (q .given .actions)
     (q .given .markers ++ (record { name = record { start = start; len = len }; position = position } ∷ [])) (q .given .text) (q .given .outcomes) q
-
--- with other lists
-abbrev withJournal : List JournalEntry → Call → Call
-withJournal journal q = withLent (record { ids = q .lists .ids; data-entries = q .lists .data-entries; journal = journal }) q
-
-abbrev withData : List DataEntry → Call → Call
-withData entries q = withLent (record { ids = q .lists .ids; data-entries = entries; journal = q .lists .journal }) q
-
-abbrev withIds : List ℕ → Call → Call
-withIds ids q = withLent (record { ids = ids; data-entries = q .lists .data-entries; journal = q .lists .journal }) q
-
--- lists of so many entries
-abbrev withRoom : ℕ → ℕ → ℕ → Call → Call
-withRoom ids entries journal q =
-    withLent (record { ids = replicate ids 9; data-entries = replicate entries lentData; journal = replicate journal lentEntry }) q
 
 -- in another phase, with a rule set of another mode
 abbrev inPhase : ℕ → Call → Call

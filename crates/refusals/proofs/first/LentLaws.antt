@@ -20,7 +20,8 @@ use Rattle.lists.proofs.RecordLaws.{length-actions}
 use Rattle.lists.proofs.RecordLaws.{length-rules, length-markers}
 use Rattle.refusals.specs.declared.first.Counts.{Counts}
 use Rattle.refusals.specs.declared.first.Sizes.{Sizes}
-use Rattle.refusals.specs.FirstRefusal.{Sized, Counted, firstOfFour, firstOfSeven}
+use Rattle.refusals.specs.declared.first.Room.{Room}
+use Rattle.refusals.specs.FirstRefusal.{Sized, Roomed, Counted, firstOfFour, firstOfSeven}
 
 -- the answer `t` of a test `b` of what is counted is that of the refusal
 module _ {q : Call} {call : CallSettings} {counts : Counts} {sizes : Sizes} (l : Counted q call counts sizes) where
@@ -100,13 +101,13 @@ module _ (l : Lent) {sizes : Sizes} (s : Sized (l .t) (l .lists) sizes) where
   unfolding refused6
   says-6 h e = sym h ∙ e
 
-  pub says-7 : {b x : Bool}
+  pub says-7 : {room : Room} → Roomed (l .lists) room → {b x : Bool}
       → b ≡ (ltb (sizes .ids) (sizes .«ids_used» + length (l .rules) / 5)
-      || ltb (sizes .entries) (sizes .«entries_used» + length (l .rules) / 5) || ltb (sizes .journal) (length (l .rules) / 5))
+      || ltb (sizes .entries) (sizes .«entries_used» + length (l .rules) / 5) || ltb (room .journal) (length (l .rules) / 5))
       → b ≡ x → refused7 (callOn l) ≡ x
   unfolding refused7
-  says-7 h e =
-      rw (length-rules (l .rules), s .ids, s .ids-used, s .entries, s .entries-used, s .journal) (sym h ∙ e)
+  says-7 free h e =
+      rw (length-rules (l .rules), s .ids, s .ids-used, s .entries, s .entries-used, free .journal) (sym h ∙ e)
 
 -- the first that applies of those from a number on
 abbrev pub firstFrom7 : Call → ℕ

@@ -6,6 +6,8 @@ use tivembo::{
     Transaction,
 };
 
+use crate::random::Random;
+
 /// A phase call: ours, or one that stands in for it.
 pub type PhaseCall = fn(&mut HostTransaction, &Lent<'_>, &mut Lists<'_>) -> HostAnswer;
 
@@ -47,6 +49,46 @@ impl List {
     }
 }
 
+/// The lists that a call writes.
+#[derive(Debug, Clone, PartialEq, Eq)]
+pub struct Written {
+    pub ids: List,
+    pub entries: List,
+    pub journal: List,
+}
+
+impl Written {
+    /// Lists with room for so many rules after what the transaction has in use, and a few numbers more.
+    pub fn with_room(random: &mut Random, transaction: &HostTransaction, rules: usize) -> Self {
+        let (ids, entries) = (transaction.ids as usize, transaction.entries as usize);
+        let mut list = |length, more| List::new(length + random.below(more), random.bits());
+        Self {
+            ids: list(ids + rules, 4),
+            entries: list(4 * (entries + rules), 8),
+            journal: list(2 * rules, 4),
+        }
+    }
+
+    pub fn each_mut(&mut self) -> [&mut List; 3] {
+        [&mut self.ids, &mut self.entries, &mut self.journal]
+    }
+
+    fn lent(&mut self) -> Lists<'_> {
+        Lists {
+            ids: self.ids.lent(),
+            entries: self.entries.lent(),
+            journal: self.journal.lent(),
+        }
+    }
+
+    /// Whether the guards are as they are in others.
+    fn has_guards_of(&self, other: &Self) -> bool {
+        self.ids.has_guards_of(&other.ids)
+            && self.entries.has_guards_of(&other.entries)
+            && self.journal.has_guards_of(&other.journal)
+    }
+}
+
 /// Everything that a call is given.
 #[derive(Debug, Clone, PartialEq, Eq)]
 pub struct Given {
@@ -57,9 +99,7 @@ pub struct Given {
     pub text: Vec<u8>,
     pub outcomes: Vec<u8>,
     pub transaction: HostTransaction,
-    pub ids: List,
-    pub entries: List,
-    pub journal: List,
+    pub lists: Written,
 }
 
 impl Given {
@@ -73,12 +113,7 @@ impl Given {
             text: &self.text,
             outcomes: &self.outcomes,
         };
-        let mut lists = Lists {
-            ids: self.ids.lent(),
-            entries: self.entries.lent(),
-            journal: self.journal.lent(),
-        };
-        call(&mut self.transaction, &lent, &mut lists)
+        call(&mut self.transaction, &lent, &mut self.lists.lent())
     }
 
     /// Whether everything that a call may not write at all is as before it.
@@ -88,9 +123,7 @@ impl Given {
             && self.markers == before.markers
             && self.text == before.text
             && self.outcomes == before.outcomes
-            && self.ids.has_guards_of(&before.ids)
-            && self.entries.has_guards_of(&before.entries)
-            && self.journal.has_guards_of(&before.journal)
+            && self.lists.has_guards_of(&before.lists)
     }
 
     /// Whether the crate's own check of a rule set says of the records what a call says that has no other fault.

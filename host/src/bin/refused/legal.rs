@@ -5,7 +5,7 @@ use tivembo::{
     HostTransaction, Marker, Part, Rule,
 };
 
-use crate::given::{Given, List};
+use crate::given::{Given, Written};
 use crate::random::Random;
 
 /// Directives with their values, one after the other in every text. Each has two ranges or one target at most.
@@ -36,13 +36,7 @@ pub fn legal(random: &mut Random) -> Given {
         .map(|_| action(random, text.len(), &directives, rules <= FEW_RULES))
         .collect();
     let transaction = transaction(random);
-    let (ids, entries) = (transaction.ids as usize, transaction.entries as usize);
-    let mut list = |length, more| List::new(length + random.below(more), random.bits());
-    let [ids, entries, journal] = [
-        list(ids + rules, 4),
-        list(4 * (entries + rules), 8),
-        list(2 * rules, 4),
-    ];
+    let lists = Written::with_room(random, &transaction, rules);
     let mut marker = |_| Marker {
         name: part(random, text.len()),
         position: random.number(rules as u64 + 1),
@@ -62,9 +56,7 @@ pub fn legal(random: &mut Random) -> Given {
         markers,
         text,
         transaction,
-        ids,
-        entries,
-        journal,
+        lists,
     }
 }
 

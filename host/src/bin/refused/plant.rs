@@ -39,7 +39,10 @@ fn too_large(given: &mut Given, random: &mut Random) {
 }
 
 fn miscounted(given: &mut Given, random: &mut Random) {
-    let (ids, entries) = (given.ids.len() as u64, given.entries.len() as u64 / 4);
+    let (ids, entries) = (
+        given.lists.ids.len() as u64,
+        given.lists.entries.len() as u64 / 4,
+    );
     let transaction = &mut given.transaction;
     match random.below(4) {
         0 => transaction.controls.ranges = random.above(256),
@@ -193,12 +196,12 @@ fn no_room(given: &mut Given, random: &mut Random) {
     let (rules, transaction) = (given.rules.len(), &given.transaction);
     let free = random.below(rules);
     match random.below(3) {
-        0 => given.ids.shorten(transaction.ids as usize + free),
+        0 => given.lists.ids.shorten(transaction.ids as usize + free),
         1 => {
             let whole = transaction.entries as usize + free;
-            given.entries.shorten(4 * whole + random.below(4));
+            given.lists.entries.shorten(4 * whole + random.below(4));
         }
-        _ => given.journal.shorten(2 * free + random.below(2)),
+        _ => given.lists.journal.shorten(2 * free + random.below(2)),
     }
 }
 

@@ -36,7 +36,7 @@ pub fn wild(random: &mut Random) -> Given {
     if random.one_in(16) {
         (given.call.phase, given.call.mode) = (random.wild(), random.wild());
     }
-    for list in [&mut given.ids, &mut given.entries, &mut given.journal] {
+    for list in given.lists.each_mut() {
         if random.one_in(16) {
             list.shorten(random.below(list.len() + 1));
         }

@@ -66,7 +66,7 @@ early-refusal-requires : tie.Need-early-refusal-requires
 early-refusal-requires c κs = search needs
 
 returns : tie.Need-returns
-returns c t lists l =
+returns c t lists l free =
     let e = four (c .before) t lists l in
     e ∙ sym (four-first (call (start (c .before)) t lists) (λ z. c .if1 .taken (e ∙ z)))
 
@@ -74,22 +74,22 @@ has-bad-record-requires : tie.Need-has-bad-record-requires
 has-bad-record-requires c κs = search needs
 
 returns-2 : tie.Need-returns-2
-returns-2 c t lists l = rw (past-early (c .before .before) t lists l, says-5 (lent (start-4 (c .before .before)) t lists) l (c .before .has-bad-record .ensures) (c .if2 .taken))
+returns-2 c t lists l free = rw (past-early (c .before .before) t lists l, says-5 (lent (start-4 (c .before .before)) t lists) l (c .before .has-bad-record .ensures) (c .if2 .taken))
 
 has-high-byte-requires : tie.Need-has-high-byte-requires
 has-high-byte-requires c κs = search needs
 
 returns-3 : tie.Need-returns-3
-returns-3 c t lists l = rw (past-5 (c .before .before) t lists l, says-6 (lent (start-5 (c .before .before)) t lists) l (c .before .has-high-byte .ensures) (c .if3 .taken))
+returns-3 c t lists l free = rw (past-5 (c .before .before) t lists l, says-6 (lent (start-5 (c .before .before)) t lists) l (c .before .has-high-byte .ensures) (c .if3 .taken))
 
 has-no-room-requires : tie.Need-has-no-room-requires
 has-no-room-requires c κs = search needs
 
 returns-4 : tie.Need-returns-4
-returns-4 c t lists l = rw (past-6 (c .before .before) t lists l, says-7 (lent (start-6 (c .before .before)) t lists) l (c .before .has-no-room .ensures) (c .if4 .taken))
+returns-4 c t lists l free = rw (past-6 (c .before .before) t lists l, says-7 (lent (start-6 (c .before .before)) t lists) l free (c .before .has-no-room .ensures) (c .if4 .taken))
 
 returns-5 : tie.Need-returns-5
-returns-5 c t lists l = rw (past-6 (c .before .before) t lists l, says-7 (lent (start-6 (c .before .before)) t lists) l (c .before .has-no-room .ensures) (c .if4 .left))
+returns-5 c t lists l free = rw (past-6 (c .before .before) t lists l, says-7 (lent (start-6 (c .before .before)) t lists) l free (c .before .has-no-room .ensures) (c .if4 .left))
 
 pub first-refusal-spec : {M : Type 1} → statement M
 first-refusal-spec =

@@ -15,7 +15,7 @@ use Rattle.lists.proofs.RecordLaws.{length-actions}
 use Rattle.apply.specs.Codes.{codesOf}
 use Rattle.refusals.specs.FirstRefusal.{Sized, firstOfSeven}
 use Rattle.transaction.proofs.Promise.{few-of-seven}
-use Rattle.transaction.proofs.Tested.{Lent, callAt, sized-so, idle-is, digested, limited}
+use Rattle.transaction.proofs.Tested.{Lent, callAt, sized-so, roomed-so, idle-is, digested, limited}
 use Rattle.transaction.proofs.Tested.{ran-first, ran-by, ran-nothing, ready-at, visited-at, ran-at}
 use borrow.Author.Needs.{needs}
 use Rattle.transaction.proofs.run_phase.run_phase.Statement.{statement}
@@ -71,7 +71,7 @@ first : (c : tie.After-first-refusal) → c .first-refusal .result ≡ firstOfSe
 first c =
     let g = given-first c in
     c .first-refusal .ensures (callAt g .transaction) (callAt g .lists)
-    (subst (Sized (callAt g .transaction) (callAt g .lists)) (sym (c .before .sizes-of .ensures)) (sized-so g))
+    (subst (Sized (callAt g .transaction) (callAt g .lists)) (sym (c .before .sizes-of .ensures)) (sized-so g)) (roomed-so g)
 
 zero : (c : tie.Else1) → firstOfSeven (callAt (given-first (c .before))) ≡ 0
 zero c = sym (first (c .before)) ∙ c .if1 .left

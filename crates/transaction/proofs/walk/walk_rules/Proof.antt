@@ -9,7 +9,7 @@ use borrow.Author.Needs.{needs}
 use denote.Ref.{now}
 use lib.ListN.{length}
 use Rattle.reading.specs.declared.OptionIntervention.{OptionIntervention}
-use Rattle.reading.specs.Records.{markerList, givenOf, LentLists, lent}
+use Rattle.reading.specs.Records.{markerList, givenOf}
 use Rattle.reading.specs.Call.{Given}
 use Rattle.reading.specs.Walk.{verdictAt}
 use Rattle.control.specs.ControlsStruct.{controlsOf}
@@ -20,7 +20,7 @@ use Rattle.unit.specs.VisitRule.{foundAt}
 use Rattle.transaction.specs.declared.types.Phase.{Phase}
 use Rattle.transaction.specs.declared.types.WalkState.{WalkState}
 use Rattle.transaction.specs.declared.types.Transaction.{Transaction}
-use Rattle.transaction.specs.WalkRules.{fresh, Ready, Walked, UnitClosed}
+use Rattle.transaction.specs.WalkRules.{WalkLists, walkLists, fresh, Ready, Walked, UnitClosed}
 use Rattle.transaction.proofs.Found.{verdict-found, visit-found}
 use Rattle.transaction.proofs.Progress.{Sofar, sofar-none, sofar-end, few-ranges, journal-same, ids-same, entries-same}
 use Rattle.transaction.proofs.Turn.{Turning, inside-rules, past-rules, journal-ahead, visits-fit, journal-long}
@@ -76,8 +76,8 @@ given c =
     let a = c .args in
     givenOf (a .call) (now (a .rules)) (now (a .actions)) (markerList (now (a .markers))) (now (a .text)) (now (a .outcomes))
 
-abbrev lists : tie.Start Inv-loop μ-loop → LentLists
-lists c = lent (now (c .args .ids)) (now (c .args .entries)) (now (c .args .journal))
+abbrev lists : tie.Start Inv-loop μ-loop → WalkLists
+lists c = walkLists (now (c .args .ids)) (now (c .args .entries)) (now (c .args .journal))
 
 abbrev Q : tie.After-start Inv-loop μ-loop → Given
 Q c = given (entered c)
@@ -97,7 +97,7 @@ ready : (c : tie.After-start Inv-loop μ-loop) → Ready (Q c) (T c) (now (enter
 ready c =
     subst (λ (t : Transaction). Ready (Q c) t (now (entered c .args .codes)) (lists (entered c))) (sym (first-is c)) (entered c .pre)
 
-walked : (c : tie.After-start Inv-loop μ-loop) (r : Phase) (l : LentLists)
+walked : (c : tie.After-start Inv-loop μ-loop) (r : Phase) (l : WalkLists)
     → Walked (Q c) (T c) (lists (entered c)) r l → Walked (Q c) (fresh (entered c .args .t)) (lists (entered c)) r l
 walked c r l = subst (λ (t : Transaction). Walked (Q c) t (lists (entered c)) r l) (first-is c)
 
