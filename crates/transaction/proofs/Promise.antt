@@ -37,7 +37,7 @@ use Rattle.refusals.proofs.first.LentLaws.{one-same, one-past}
 use Rattle.transaction.specs.declared.types.Transaction.{Transaction}
 use Rattle.transaction.specs.declared.types.Phase.{Phase}
 use Rattle.transaction.specs.RunPhase.{transactionOf, callOf, answerWithout, outcomeFound, Ran}
-use Rattle.transaction.specs.WalkRules.{listsOfWalk, fresh, visitsFrom, Ready, Walked}
+use Rattle.transaction.specs.WalkRules.{WalkLists, walkLists, fresh, visitsFrom, Ready, Walked}
 
 -- THE FIRST REFUSAL, BY ITS PARTS
 
@@ -85,6 +85,10 @@ module _ (q : Call) where
       few-actions q (p2 .0)
 
 -- THE PROMISE
+
+-- of the lists of a call, those that the walk writes
+abbrev pub listsOfWalk : LentLists → WalkLists
+listsOfWalk l = walkLists (l .ids) (l .entries) (l .journal)
 
 -- what is to do: not allowed, not stopped, and the mode not Off
 pub record Busy (g : Given) (t : reading.Transaction) : Type 0 where

@@ -28,9 +28,9 @@ use Rattle.refusals.specs.FirstRefusal.{Sized, Roomed, firstOfSeven}
 use Rattle.transaction.specs.declared.types.Transaction.{Transaction}
 use Rattle.transaction.specs.declared.types.Phase.{Phase}
 use Rattle.transaction.specs.RunPhase.{callOf, answerWithout, Ran}
-use Rattle.transaction.specs.WalkRules.{listsOfWalk, fresh, Ready, Walked}
+use Rattle.transaction.specs.WalkRules.{fresh, Ready, Walked}
 use Rattle.transaction.proofs.Promise.{few-of-seven, seven-first, past-seven, ran-refused, ran-idle}
-use Rattle.transaction.proofs.Promise.{busy, fresh-is, ready-of, visited-within, ran-walked}
+use Rattle.transaction.proofs.Promise.{listsOfWalk, busy, fresh-is, ready-of, visited-within, ran-walked}
 use Rattle.transaction.proofs.Promise.{length-data-list, length-journal-list}
 
 -- what the call is lent, in the code's form

@@ -7,7 +7,7 @@ use lib.ListN.{length, take, drop, replicate}
 use Rattle.reading.specs.declared.OptionIntervention.{OptionIntervention}
 use Rattle.reading.specs.declared.RuleEngineMode.{RuleEngineMode}
 use Rattle.reading.specs.Lists.{over}
-use Rattle.reading.specs.Records.{LentLists, dataWords, journalWords, journalList, matchedIn}
+use Rattle.reading.specs.Records.{dataWords, journalWords, journalList, matchedIn}
 use Rattle.reading.specs.Controls.{isOff}
 use Rattle.reading.specs.Call.{Given, ruleCount, modeUnder}
 use Rattle.reading.specs.Units.{unitIntervention}
@@ -44,10 +44,6 @@ pub record WalkLists : Type 0 where
 
 abbrev pub walkLists : List ℕ → List ℕ → List ℕ → WalkLists
 walkLists ids entries journal = record { ids = ids; entries = entries; journal = journal }
-
--- those of a call
-abbrev pub listsOfWalk : LentLists → WalkLists
-listsOfWalk l = walkLists (l .ids) (l .entries) (l .journal)
 
 -- all visits from the first rule on
 abbrev pub visitsFrom : Given → Transaction → List Visit

@@ -6,6 +6,7 @@ use mathlib.Core.List.{List, [], _∷_}
 use native.Mathlib.Omega.{arith}
 use mir.Syntax.{w64}
 use mir.Val.{Fits}
+use borrow.Author.Tests.{eq-eqb, ne-eqb}
 use lib.Dec.{eqb}
 use lib.ListN.{length, drop, getD}
 use Rattle.reading.specs.declared.JournalEntry.{JournalEntry}
@@ -47,6 +48,15 @@ module _ (words : List ℕ) where
       = ap (entriesWith n) (drop-records 2 journalFrom words k h) in
       rw one (omega (arith, c, e))
 
+  -- one entry more that has that number, and one that has another
+  pub counted-hit : (n count k : ℕ) → k < length words / 2 → getD words (2 * k + 1) 0 ≡ n → Counted n count k → Counted n (count + 1) (k + 1)
+  counted-hit n count k h e c = rw (eq-eqb (getD words (2 * k + 1) 0) n e) at (counted-more n count k h c)
+
+  pub counted-other : (n count k : ℕ) → k < length words / 2 → (getD words (2 * k + 1) 0 ≡ n → ⊥) → Counted n count k → Counted n count (k + 1)
+  counted-other n count k h e c =
+      let z : count + 0 ≡ count = omega arith in
+      rw (ne-eqb (getD words (2 * k + 1) 0) n e, z) at (counted-more n count k h c)
+
   -- all after the last
   pub counted-all : (n count k : ℕ) → length words / 2 ≤ k → Counted n count k → count ≡ entriesWith n (journalList words)
   unfolding journalList
@@ -55,8 +65,10 @@ module _ (words : List ℕ) where
       omega (arith, c, e)
 
   -- no count is greater than the number of entries, which are in memory
-  pub counted-fits : (n count k one : ℕ) → Counted n count k → one ≡ cond (eqb (getD words (2 * k + 1) 0) n) 1 0 → 8 * length words < 2 ^ 64
-      → Fits w64 (count + one)
+  pub counted-fits : (n count k one : ℕ) → Counted n count k → one ≤ 1 → 8 * length words < 2 ^ 64 → Fits w64 (count + one)
   unfolding journalList
-  counted-fits n count k one c e small =
-      omega (arith, c, few n (journalList words), length-records 2 journalFrom words, one-or-none (eqb (getD words (2 * k + 1) 0) n))
+  counted-fits n count k one c e small = omega (arith, c, few n (journalList words), length-records 2 journalFrom words)
+
+-- what a verdict adds is one or nothing
+pub one-at-most : (v n one : ℕ) → one ≡ cond (eqb v n) 1 0 → one ≤ 1
+one-at-most v n one e = omega (arith, e, one-or-none (eqb v n))
