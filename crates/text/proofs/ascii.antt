@@ -1,2 +1,3 @@
+pub mod Folding
 pub mod Spelling
 pub mod Search

@@ -3,17 +3,15 @@
 ghost use mathlib.Core.Path.{_≡_};
 ghost use Rattle.reading.specs.Text.{same, foldByte, fold, indexOf};
 
-// The ASCII lower case of a byte.
+// The ASCII lower case of a byte, by arithmetic alone, so that its time does not depend on the letter case. The two quotients are 1
+// from A on and from the byte after Z on; tools/folding-is-arithmetic sees that no branch comes back when this is compiled.
 pub fn fold_byte(b: u8) -> u8
     ensures { λ r. ⌜ r ≡ foldByte b ⌝ }
 {
-    if b < 65 {
-        return b;
-    }
-    if 90 < b {
-        return b;
-    }
-    b + 32
+    let n = b as u32;
+    let from_a = (n + 191) / 256;
+    let after_z = (n + 165) / 256;
+    (n + (from_a - after_z) * 32) as u8
 }
 
 // Whether a text, folded, is the given spelling.

@@ -1,19 +1,29 @@
 use borrow.Author.Needs.{needs}
-use borrow.Author.Tests.{le-leb, lt-leb}
+use mathlib.Core.Path.{refl}
+use Rattle.text.proofs.ascii.Folding.{folds}
 use Rattle.text.proofs.ascii.fold_byte.Statement.{statement}
 use Rattle.text.proofs.ascii.fold_byte.Tie as tie
 
-returns : tie.Need-returns
-returns c = simp (lt-leb _ _ (c .if1 .taken))
+add-from-a : tie.Need-add-from-a
+add-from-a c = search needs
 
-returns-2 : tie.Need-returns-2
-returns-2 c = simp (le-leb _ _ (c .before .if1 .left), lt-leb _ _ (c .if2 .taken))
+add-after-z : tie.Need-add-after-z
+add-after-z c = search needs
+
+sub-result : tie.Need-sub-result
+sub-result c = search needs
+
+mul-result : tie.Need-mul-result
+mul-result c = search needs
 
 add-result : tie.Need-add-result
 add-result c = search needs
 
-returns-3 : tie.Need-returns-3
-returns-3 c = simp (le-leb _ _ (c .before .if1 .left), le-leb _ _ (c .if2 .left))
+cast-result : tie.Need-cast-result
+cast-result c = search needs
+
+returns : tie.Need-returns
+returns c = folds _ _ _ refl (c .args .b) (search needs)
 
 pub fold-byte-spec : {M : Type 1} → statement M
-fold-byte-spec = tie.close (tie.spec returns returns-2 add-result returns-3)
+fold-byte-spec = tie.close (tie.spec add-from-a add-after-z sub-result mul-result add-result cast-result returns)
