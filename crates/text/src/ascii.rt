@@ -3,8 +3,8 @@
 ghost use mathlib.Core.Path.{_≡_};
 ghost use Rattle.reading.specs.Text.{same, foldByte, fold, indexOf};
 
-// The ASCII lower case of a byte, by arithmetic alone, so that its time does not depend on the letter case. The two quotients are 1
-// from A on and from the byte after Z on; tools/folding-is-arithmetic sees that no branch comes back when this is compiled.
+// The ASCII lower case of a byte, by arithmetic alone, so that every byte takes the same time. Each quotient is 0 or 1: the first is 1
+// from A on, the second from the byte after Z on. tools/folding checks that the compiler makes no branch of it.
 pub fn fold_byte(b: u8) -> u8
     ensures { λ r. ⌜ r ≡ foldByte b ⌝ }
 {

@@ -32,7 +32,8 @@ moved first after by b = b + ((b + first) / 256 - (b + after) / 256) * by
 abbrev isFold : ℕ → ℕ → ℕ → ℕ → Bool
 isFold first after by b = eqb (moved first after by b) (foldByte b)
 
--- The three numbers are taken from the code, so it is the code's own that are tested.
+-- One law for any three numbers: the proof of `fold_byte` leaves them to the checker, which takes those of the code, so that it is the
+-- code's own arithmetic that the test is computed of.
 pub folds :
     (first after by : ℕ) → eachBelow 256 (isFold first after by) ≡ true → (b : ℕ) → b < 256 → moved first after by b ≡ foldByte b
 folds first after by e b h = eqb-true (moved first after by b) (foldByte b) (each-below 256 (isFold first after by) e b h)
