@@ -17,6 +17,7 @@ pub fn differing(one: &CallResult, other: &CallResult) -> Vec<&'static str> {
         ("targets", one.targets == other.targets),
         ("allowed", one.allowed == other.allowed),
         ("intervention", one.intervention == other.intervention),
+        ("unsupported", one.unsupported == other.unsupported),
     ];
     let differs = same.iter().filter(|(_, same)| !same);
     differs.map(|(name, _)| *name).collect()
@@ -25,7 +26,14 @@ pub fn differing(one: &CallResult, other: &CallResult) -> Vec<&'static str> {
 #[cfg(test)]
 mod tests {
     use super::*;
-    use case_format::{Answer, BodyProcessor, Intervention, Mode, Stop, Verdict};
+    use case_format::{
+        Answer, BodyProcessor, Intervention, Mode, Stop, Unsupported, UnsupportedReason, Verdict,
+    };
+
+    const PAIR: Unsupported = Unsupported {
+        rule: 0,
+        reason: UnsupportedReason::ModeValue,
+    };
 
     fn changed(change: impl Fn(&mut CallResult)) -> Vec<&'static str> {
         let mut other = CallResult::empty(1);
@@ -52,6 +60,7 @@ mod tests {
         assert_eq!(changed(|it| it.targets.push((vec![], vec![]))), ["targets"]);
         assert_eq!(changed(|it| it.allowed = true), ["allowed"]);
         assert_eq!(changed(|it| it.intervention = Stop::Held), ["intervention"]);
+        assert_eq!(changed(|it| it.unsupported = Some(PAIR)), ["unsupported"]);
     }
 
     /// So that a name always has its line, and a line its name.
@@ -71,6 +80,7 @@ mod tests {
                 targets: vec![(vec![], vec![])],
                 allowed: true,
                 intervention: Stop::Held,
+                unsupported: Some(PAIR),
             }
         };
         let lines = CallResult::empty(1).lines();

@@ -1,19 +1,20 @@
-//! The phase call as 01 tells it, plain and slow, for a third opinion. It shares no code with the proved library or with
-//! the Rust. With a [`Reading`] it reads 01 wrongly in one place, so that the comparison can be seen to fail.
+//! The phase call as the papers tell it, plain and slow, for a third opinion. It shares no code with the proved library or
+//! with the Rust. With a [`Reading`] it reads them wrongly in one place, so that the comparison can be seen to fail.
 
 mod directive;
 mod reading;
 mod unit;
 
-use case_format::{Answer, CallResult, Entry, Mode, Stop, Verdict};
+use case_format::{
+    Answer, CallResult, DirectiveAnswer as Directive, Entry, Mode, Stop, Unsupported, Verdict,
+};
 
 use crate::case::{outcome, Call, Case};
 
-pub use directive::trimmed;
+pub use directive::{read as read_directive, trimmed};
 pub use reading::{Reading, READINGS};
 pub use unit::is_ctl;
 
-use directive::Directive;
 use reading::Reading as R;
 
 /// A transaction and the rule set's mode and default status.
@@ -159,22 +160,34 @@ impl Walk<'_> {
             return self.close();
         }
         if self.model.reads(R::LinkControlsEarly) {
-            self.apply_controls(index);
+            self.apply_controls(index, self.members[0]);
         }
         Some(index + 1)
     }
 
-    fn apply_controls(&mut self, index: usize) {
+    /// Applies the controls of a member of the unit that begins with a starter. 02: "the rule index and reason of the first
+    /// unsupported directive in its closed units".
+    fn apply_controls(&mut self, member: usize, starter: usize) {
         let call = self.call;
-        let held = &mut self.model.held;
-        for control in call.actions_of(index).iter().filter(|a| unit::is_ctl(a)) {
-            match directive::read(call.text(control.text), call.text(control.value)) {
-                Directive::Mode(mode) => held.mode = Some(mode),
-                Directive::Access(on) => held.body_access = Some(on),
-                Directive::Processor(name) => held.body_processor = Some(name),
+        let is_last_told = self.model.reads(R::LastUnsupported);
+        let rule = match self.model.reads(R::UnsupportedAtStarter) {
+            true => starter as u64,
+            false => member as u64,
+        };
+        let (held, found) = (&mut self.model.held, &mut self.found);
+        for control in call.actions_of(member).iter().filter(|a| unit::is_ctl(a)) {
+            match read_directive(call.text(control.text), call.text(control.value)) {
+                Directive::Engine(mode) => held.mode = Some(mode),
+                Directive::BodyAccess(on) => held.body_access = Some(on),
+                Directive::BodyProcessor(name) => held.body_processor = Some(name),
                 Directive::Ranges(ranges) => held.ranges.extend(ranges),
-                Directive::Target(id, target) => self.found.targets.push((id, target)),
-                Directive::Unsupported => {}
+                Directive::Target(id, target) => found.targets.push((id, target)),
+                Directive::Unsupported(reason) => {
+                    if found.unsupported.is_none() || is_last_told {
+                        found.unsupported = Some(Unsupported { rule, reason });
+                    }
+                }
+                Directive::Refused(_) => unreachable!("no directive is refused here"),
             }
         }
     }

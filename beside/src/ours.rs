@@ -5,7 +5,7 @@ mod read;
 use crate::case::{Call, Case};
 use case_format::{CallResult, Mode};
 use tivembo::raw::{run_phase, words, Lent, Lists};
-use tivembo::{CallSettings, HostIntervention, HostTransaction, Place, Report};
+use tivembo::{CallSettings, HostAnswer, HostIntervention, HostTransaction, Place, Report};
 
 /// What entries that a call must not write hold.
 const PATTERN: u64 = 0xA5A5_5A5A_0F0F_F0F0;
@@ -59,6 +59,30 @@ impl Ours {
         self.lend_lists(call.rules.len());
         let before = self.held.clone();
         let lists_before = (self.ids.clone(), self.entries.clone());
+        let answer = self.run(call);
+        let visits = answer.visits as usize;
+        let mut faults = self.faults(&before, &lists_before, visits);
+        let told = answer.report.unsupported;
+        let counted = Report {
+            unsupported: told,
+            ..self.counted(visits)
+        };
+        if answer.report != counted {
+            faults.push("how many visits found each verdict");
+        }
+        let unsupported = read::unsupported(told.index, told.reason);
+        if unsupported.is_none() {
+            faults.push("an unsupported directive without a reason");
+        }
+        let mut found = self.found(call, &before);
+        found.answer = read::answer(&answer);
+        found.visits = self.visits(visits).filter_map(read::visit).collect();
+        found.unsupported = unsupported.flatten();
+        (found, faults)
+    }
+
+    /// The proved call, on the lists as they are.
+    fn run(&mut self, call: &Call) -> HostAnswer {
         let lent = Lent {
             call: CallSettings {
                 phase: call.phase,
@@ -76,16 +100,7 @@ impl Ours {
             entries: &mut self.entries,
             journal: &mut self.journal,
         };
-        let answer = run_phase(&mut self.held, &lent, &mut lists);
-        let visits = answer.visits as usize;
-        let mut faults = self.faults(&before, &lists_before, visits);
-        if answer.report != self.counted(visits) {
-            faults.push("how many visits found each verdict");
-        }
-        let mut found = self.found(call, &before);
-        found.answer = read::answer(&answer);
-        found.visits = self.visits(visits).filter_map(read::visit).collect();
-        (found, faults)
+        run_phase(&mut self.held, &lent, &mut lists)
     }
 
     /// The journal's entries of so many visits.
@@ -104,6 +119,7 @@ impl Ours {
             matched: with(1),
             removed: with(2),
             errors: with(3),
+            ..Report::default()
         }
     }
 

@@ -34,10 +34,10 @@ mod words;
 
 pub use action::{Action, Kind, Operands};
 pub use case::{Call, Case, Directive, Entry, Item, Marker, Rule};
-pub use directive::DirectiveAnswer;
+pub use directive::{DirectiveAnswer, UnsupportedReason};
 pub use domain::{Anything, Domain};
 pub use line::Reason;
 pub use print::Place;
 pub use read::{ReadError, Reader};
-pub use result::{Answer, CallResult, CaseResult, Intervention, Stop};
+pub use result::{Answer, CallResult, CaseResult, Intervention, Stop, Unsupported};
 pub use words::{BodyProcessor, Mode, Outcome, Verdict};

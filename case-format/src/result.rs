@@ -2,6 +2,7 @@
 
 use std::fmt;
 
+use crate::directive::UnsupportedReason;
 use crate::text::{data, list, on_off, or_dash, quoted, range, target, visit, yes_no};
 use crate::words::{BodyProcessor, Mode, Verdict};
 
@@ -41,6 +42,8 @@ pub struct CallResult {
     pub allowed: bool,
     /// The intervention after the call.
     pub intervention: Stop,
+    /// The first unsupported directive of the units that this call closed. None after a refusal.
+    pub unsupported: Option<Unsupported>,
 }
 
 /// How a call ended.
@@ -63,6 +66,15 @@ pub enum Stop {
     Held,
     /// This call built it.
     New(Box<Intervention>),
+}
+
+/// An unsupported directive that a call passed over. It prints as the rule's index and the reason.
+#[derive(Debug, Clone, Copy, PartialEq, Eq, Hash)]
+pub struct Unsupported {
+    /// The index of the rule that has it.
+    pub rule: u64,
+    /// Why it is unsupported.
+    pub reason: UnsupportedReason,
 }
 
 /// An intervention with its texts.
@@ -131,6 +143,7 @@ impl CallResult {
             targets: Vec::new(),
             allowed: false,
             intervention: Stop::No,
+            unsupported: None,
         }
     }
 
@@ -162,6 +175,7 @@ impl CallResult {
             list("targets", &self.targets, target),
             format!("allowed {}", yes_no(self.allowed)),
             format!("intervention {}", self.intervention),
+            format!("unsupported {}", or_dash(self.unsupported)),
         ]
     }
 }
@@ -183,6 +197,12 @@ impl fmt::Display for Stop {
             Self::Held => f.write_str("held"),
             Self::New(new) => write!(f, "{new}"),
         }
+    }
+}
+
+impl fmt::Display for Unsupported {
+    fn fmt(&self, f: &mut fmt::Formatter<'_>) -> fmt::Result {
+        write!(f, "{} {}", self.rule, self.reason)
     }
 }
 

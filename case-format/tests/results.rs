@@ -2,7 +2,7 @@
 
 use case_format::{
     Answer, BodyProcessor, CallResult, CaseResult, DirectiveAnswer, Intervention, Mode, Stop,
-    Verdict,
+    Unsupported, UnsupportedReason, Verdict,
 };
 
 /// The page's own example, as far as one call can give it.
@@ -34,6 +34,10 @@ fn example() -> CallResult {
             msg: Some(b"x".to_vec()),
             ..Intervention::default()
         })),
+        unsupported: Some(Unsupported {
+            rule: 3,
+            reason: UnsupportedReason::Unrecognised,
+        }),
     }
 }
 
@@ -56,6 +60,7 @@ ranges 42-42 942100-942999
 targets "942100";"ARGS:token"
 allowed yes
 intervention status=403 drop=no url=- log="x" ids=43,41 phase=1 id=41 msg="x" logdata=- rev=- ver=- severity=- maturity=- accuracy=-
+unsupported 3 7
 call 2
 answer 0
 visits
@@ -68,6 +73,7 @@ ranges
 targets
 allowed no
 intervention -
+unsupported -
 end"#;
     assert_eq!(result.to_string(), expected);
 }
@@ -122,7 +128,14 @@ fn answers_of_the_directive_reader() {
             DirectiveAnswer::BodyProcessor(BodyProcessor::Xml),
             "body-processor XML",
         ),
-        (DirectiveAnswer::Unsupported, "unsupported"),
+        (
+            DirectiveAnswer::Unsupported(UnsupportedReason::ModeValue),
+            "unsupported 1",
+        ),
+        (
+            DirectiveAnswer::Unsupported(UnsupportedReason::Audit),
+            "unsupported 6",
+        ),
         (DirectiveAnswer::Refused(6), "answer 6"),
     ];
     for (answer, line) in said {

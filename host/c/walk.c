@@ -1,7 +1,9 @@
-/* Walks 01's cases C2 and C8 through the library, as a gateway in C does, and prints what they give. Last, the controls by value:
-   a range is added, and two ids are asked for. host/c/test compares what is printed with walk.expected. */
+/* Walks 01's cases C2 and C8 through the library, as a gateway in C does, and prints what they give. Then a chain whose second rule has
+   a directive that is passed over, and directives by themselves. Last, the controls by value: a range is added, and two ids are
+   asked for. host/c/test compares what is printed with walk.expected. */
 #include <inttypes.h>
 #include <stdio.h>
+#include <string.h>
 
 #include "tivembo.h"
 
@@ -67,6 +69,29 @@ static void print_intervention(const TivemboHostIntervention *found) {
     printf("\n");
 }
 
+/* 02's words for the number of a reason. */
+static const char *reason_name(uint64_t reason) {
+    switch (reason) {
+    case TIVEMBO_REASON_MODE_VALUE: return "mode value";
+    case TIVEMBO_REASON_ID_LIST: return "id list";
+    case TIVEMBO_REASON_TARGET_FORM: return "target form";
+    case TIVEMBO_REASON_BODY_ACCESS_VALUE: return "body access value";
+    case TIVEMBO_REASON_PROCESSOR: return "processor";
+    case TIVEMBO_REASON_AUDIT: return "audit";
+    case TIVEMBO_REASON_UNRECOGNISED: return "unrecognised";
+    default: return "none";
+    }
+}
+
+/* The first directive that the phase passed over, as a gateway's log has it. */
+static void print_unsupported(TivemboUnsupportedAt first) {
+    if (first.reason == 0) {
+        printf("unsupported none\n");
+    } else {
+        printf("unsupported at %" PRIu64 " reason %" PRIu64 ", %s\n", first.index, first.reason, reason_name(first.reason));
+    }
+}
+
 static void walk(const char *name, const Rules *given) {
     static const char *const verdicts[] = {"missed", "matched", "removed", "error"};
     TivemboHostTransaction transaction = {0};
@@ -87,6 +112,7 @@ static void walk(const char *name, const Rules *given) {
     }
     printf("\n");
     print_intervention(&transaction.intervention);
+    print_unsupported(answer.report.unsupported);
 }
 
 /* 10 deny. */
@@ -117,6 +143,47 @@ static void c8(void) {
     printf("marker A answer %" PRIu64 " present %" PRIu64 " position %" PRIu64 "\n", found.answer, found.present, found.position);
 }
 
+/* 1 link; 2 with ctl:foo=1. The index is that of the rule that has the directive. */
+static void passed_over(void) {
+    static const uint8_t text[] = {'f', 'o', 'o', '1'};
+    static const TivemboRule rules[] = {
+        {.present = 1, .id = 1, .link = 1},
+        {.present = 1, .id = 2, .first = 0, .count = 1},
+    };
+    static const TivemboAction actions[] = {
+        {.kind = TIVEMBO_KIND_CTL, .text = {.start = 0, .len = 3}, .value = {.start = 3, .len = 1}},
+    };
+    const Rules given = {rules, COUNT(rules), actions, COUNT(actions), A_AT_1, 0, text, COUNT(text)};
+    walk("passed over", &given);
+}
+
+/* Reads a directive, and prints the reason where it is unsupported. */
+static void print_read(const char *name, const char *value) {
+    uint64_t starts[1] = {0}, ends[1] = {0};
+    TivemboReadRecord found = tivembo_read_directive(
+        (const uint8_t *)name, strlen(name), (const uint8_t *)value, strlen(value),
+        starts, COUNT(starts), ends, COUNT(ends));
+    printf("%s=%s answer %" PRIu64 " form %" PRIu64 " value %" PRIu64, name, value, found.answer, found.form, found.value);
+    if (found.answer == 0 && found.form == TIVEMBO_DIRECTIVE_UNSUPPORTED) {
+        printf(": %s", reason_name(found.value));
+    }
+    printf("\n");
+}
+
+/* One for each reason; then one that is supported, and one that is refused, so that nothing was read. */
+static void directives(void) {
+    printf("directives\n");
+    print_read("ruleEngine", "Of");
+    print_read("ruleRemoveById", "1,5-4");
+    print_read("ruleRemoveTargetById", "942100");
+    print_read("requestBodyAccess", "yes");
+    print_read("requestBodyProcessor", "YAML");
+    print_read("auditEngine", "On");
+    print_read("ruleRemoveByTag", "x");
+    print_read("ruleRemoveById", "43");
+    print_read("ruleRemoveById", "43,44");
+}
+
 /* A range from 942100 to 942999 is removed, both ends too. */
 static void controls(void) {
     TivemboHostControls none = {0};
@@ -132,6 +199,8 @@ static void controls(void) {
 int main(void) {
     c2();
     c8();
+    passed_over();
+    directives();
     controls();
     return 0;
 }

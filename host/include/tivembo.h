@@ -81,6 +81,15 @@ TIVEMBO_ASSERT(sizeof(bool) == 1);
 #define TIVEMBO_VERDICT_REMOVED UINT64_C(2)
 #define TIVEMBO_VERDICT_ERROR UINT64_C(3)
 
+/* 02: "mode value, id list, target form, body access value, processor, audit, unrecognised, numbered 1 to 7" */
+#define TIVEMBO_REASON_MODE_VALUE UINT64_C(1)
+#define TIVEMBO_REASON_ID_LIST UINT64_C(2)
+#define TIVEMBO_REASON_TARGET_FORM UINT64_C(3)
+#define TIVEMBO_REASON_BODY_ACCESS_VALUE UINT64_C(4)
+#define TIVEMBO_REASON_PROCESSOR UINT64_C(5)
+#define TIVEMBO_REASON_AUDIT UINT64_C(6)
+#define TIVEMBO_REASON_UNRECOGNISED UINT64_C(7)
+
 /* The papers give no number to the cases below; these are ours (docs/DECISIONS.md, D12). */
 #define TIVEMBO_ACCESS_ON UINT64_C(0)
 #define TIVEMBO_ACCESS_OFF UINT64_C(1)
@@ -190,9 +199,10 @@ typedef struct TivemboReadRecord {
     /* 0 or a refusal's number. */
     uint64_t answer;
     /* 0 unsupported, 1 ruleEngine, 2 ruleRemoveById, 3 ruleRemoveTargetById, 4 requestBodyAccess, 5
-       requestBodyProcessor. */
+       requestBodyProcessor; 0 too where nothing was read. */
     uint64_t form;
-    /* The number of a mode, an access or a processor, how many ranges, or where a target is cut. */
+    /* The number of a reason (1 to 7), a mode, an access or a processor, how many ranges, or where a target is cut;
+       0 where nothing was read. */
     uint64_t value;
 } TivemboReadRecord;
 TIVEMBO_ASSERT(sizeof(TivemboReadRecord) == 24);
@@ -312,7 +322,18 @@ typedef struct TivemboCallSettings {
 } TivemboCallSettings;
 TIVEMBO_ASSERT(sizeof(TivemboCallSettings) == 24);
 
-/* What a phase tells besides: how many of its visits found each verdict. */
+/* An unsupported directive that a phase passed over: the rule that has it, and why. Both are 0 where there is none. */
+typedef struct TivemboUnsupportedAt {
+    /* The index of the rule that has it. */
+    uint64_t index;
+    /* 1 mode value, 2 id list, 3 target form, 4 body access value, 5 processor, 6 audit, 7 unrecognised; 0 where
+       there is none. */
+    uint64_t reason;
+} TivemboUnsupportedAt;
+TIVEMBO_ASSERT(sizeof(TivemboUnsupportedAt) == 16);
+
+/* What a phase tells besides: how many of its visits found each verdict, and the first unsupported directive of its
+   closed units. */
 typedef struct TivemboReport {
     /* How many visits missed. */
     uint64_t missed;
@@ -322,8 +343,10 @@ typedef struct TivemboReport {
     uint64_t removed;
     /* How many met a rule error: one, with answer 10, or none. */
     uint64_t errors;
+    /* The first unsupported directive of its closed units. */
+    TivemboUnsupportedAt unsupported;
 } TivemboReport;
-TIVEMBO_ASSERT(sizeof(TivemboReport) == 32);
+TIVEMBO_ASSERT(sizeof(TivemboReport) == 48);
 
 /* What a phase call answers, the same from the walk to a host: 0, 10, or the number of a refusal; the index of the
    rule that had the error, with 10; how many entries the journal holds; and what is told besides. */
@@ -337,7 +360,7 @@ typedef struct TivemboAnswer {
     /* What is told besides. */
     TivemboReport report;
 } TivemboAnswer;
-TIVEMBO_ASSERT(sizeof(TivemboAnswer) == 56);
+TIVEMBO_ASSERT(sizeof(TivemboAnswer) == 72);
 
 /* The answer to a question: 0 and the number of a value, or the number of a refusal and 0. */
 typedef struct TivemboHostQueryAnswer {

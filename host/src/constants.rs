@@ -66,6 +66,17 @@ pub mod verdict {
     pub const ERROR: u64 = 3;
 }
 
+/// 02: "mode value, id list, target form, body access value, processor, audit, unrecognised, numbered 1 to 7"
+pub mod reason {
+    pub const MODE_VALUE: u64 = 1;
+    pub const ID_LIST: u64 = 2;
+    pub const TARGET_FORM: u64 = 3;
+    pub const BODY_ACCESS_VALUE: u64 = 4;
+    pub const PROCESSOR: u64 = 5;
+    pub const AUDIT: u64 = 6;
+    pub const UNRECOGNISED: u64 = 7;
+}
+
 /// The papers give no number to the cases below; these are ours (docs/DECISIONS.md, D12).
 pub mod access {
     pub const ON: u64 = 0;

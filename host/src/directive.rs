@@ -3,7 +3,7 @@
 use crate::constants::directive as form;
 use crate::exported;
 use crate::values::{BodyProcessor, Mode};
-use crate::Refusal;
+use crate::{Refusal, UnsupportedReason};
 
 /// What a ctl directive says.
 #[derive(Debug, Clone, PartialEq, Eq)]
@@ -18,8 +18,8 @@ pub enum Directive<'a> {
     RequestBodyAccess(bool),
     /// The processor of the request body.
     RequestBodyProcessor(BodyProcessor),
-    /// Everything else; it changes nothing.
-    Unsupported,
+    /// Everything else, and why. It changes nothing.
+    Unsupported(UnsupportedReason),
 }
 
 /// A target that is removed from a rule: the text for the rule's id, and the text for the variable.
@@ -37,13 +37,14 @@ pub struct Target<'a> {
 /// hexadecimal, or more) are given.
 ///
 /// ```
-/// use tivembo::{read_directive, Directive, Mode, Refusal};
+/// use tivembo::{read_directive, Directive, Mode, Refusal, UnsupportedReason};
 ///
 /// let read = read_directive(b" RuleEngine", b"detectiononly")?;
 /// assert_eq!(read, Directive::RuleEngine(Mode::DetectionOnly));
 /// let read = read_directive(b"ruleRemoveById", b"5 - 7, +9")?;
 /// assert_eq!(read, Directive::RuleRemoveById(vec![(5, 7), (9, 9)]));
-/// assert_eq!(read_directive(b"ruleRemoveById", b"1,5-4")?, Directive::Unsupported);
+/// let read = read_directive(b"ruleRemoveById", b"1,5-4")?;
+/// assert_eq!(read, Directive::Unsupported(UnsupportedReason::IdList));
 /// assert_eq!(read_directive(b"ruleEngine", b"\xC3\x96n"), Err(Refusal::HighByte));
 /// # Ok::<(), Refusal>(())
 /// ```
@@ -62,7 +63,7 @@ pub fn read_directive<'a>(name: &[u8], value: &'a [u8]) -> Result<Directive<'a>,
         form::REQUEST_BODY_PROCESSOR => {
             BodyProcessor::from_number(read.value).map(Directive::RequestBodyProcessor)
         }
-        _ => Some(Directive::Unsupported),
+        _ => UnsupportedReason::from_number(read.value).map(Directive::Unsupported),
     };
     Ok(directive.expect("the contract has no other values"))
 }

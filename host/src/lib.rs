@@ -28,6 +28,33 @@
 //! # Ok::<(), Box<dyn std::error::Error>>(())
 //! ```
 //!
+//! # A directive without an effect
+//!
+//! A ctl directive that is unsupported changes nothing, and the phase goes on. [`Phase::unsupported`] has the rule and the
+//! reason of the first one in the units that the call closed, for the gateway's log:
+//!
+//! ```
+//! use tivembo::{Act, Mode, Outcome, RuleSet, Transaction};
+//!
+//! let mut builder = RuleSet::builder();
+//! builder.rule(Some(40), false, &[Act::Id(40), Act::Ctl(b"requestBodyAccess", b"no")]);
+//! let rules = builder.build()?;
+//!
+//! let mut transaction = Transaction::new();
+//! let phase = transaction.run_phase(&rules, 1, Mode::On, 403, &[Outcome::Matched])?;
+//! let first = phase.unsupported().expect("no is no value of requestBodyAccess");
+//! let passed = rules.records().unsupported_in(first.rule).next().expect("the rule has it");
+//! let line = format!("phase 1, rule at {}: passed over {passed}", first.rule);
+//! assert_eq!(
+//!     line,
+//!     "phase 1, rule at 0: passed over requestBodyAccess=no: requestBodyAccess takes On or Off, as in requestBodyAccess=Off"
+//! );
+//! # Ok::<(), Box<dyn std::error::Error>>(())
+//! ```
+//!
+//! [`Records::unsupported_in`] needs no call: a gateway that asks it for every rule when it reads its rules tells of all of
+//! them, once.
+//!
 //! # What is proved, and what is not
 //!
 //! Behind every call stands a function of libhost.a that is proved to do what the definitions say, whatever it is lent: see
@@ -65,6 +92,7 @@ mod refusal;
 mod ruleset;
 mod rulesets;
 mod transaction;
+mod unsupported;
 mod values;
 mod words;
 
@@ -78,10 +106,11 @@ pub use phase::{Answer, Phase};
 pub use records::{
     Action, Answer as HostAnswer, CallSettings, DataEntry, HostChangeAnswer, HostControls,
     HostIntervention, HostMarker, HostMetadata, HostNumber, HostPlace, HostQueryAnswer, HostTarget,
-    HostTransaction, JournalEntry, Marker, Part, Report, Rule,
+    HostTransaction, JournalEntry, Marker, Part, Report, Rule, UnsupportedAt,
 };
 pub use refusal::Refusal;
 pub use ruleset::{Builder, Records, RuleSet};
 pub use rulesets::{NoSuchText, RuleSets};
 pub use transaction::Transaction;
+pub use unsupported::{PassedOver, UnsupportedDirective, UnsupportedReason};
 pub use values::{BodyProcessor, Data, Mode, Outcome, Place, Verdict};

@@ -3,6 +3,7 @@
 use crate::intervention::Intervention;
 use crate::records::{Answer as HostAnswer, DataEntry, HostTransaction, JournalEntry, Report};
 use crate::transaction::Transaction;
+use crate::unsupported::{UnsupportedDirective, UnsupportedReason};
 use crate::values::{Data, Place, Verdict};
 
 /// How a phase ended that was not refused.
@@ -81,7 +82,8 @@ impl<'t> Phase<'t> {
         entries.take(self.answer.visits as usize).map(visit)
     }
 
-    /// How many visits found each verdict.
+    /// How many visits found each verdict, and the first unsupported directive as numbers:
+    /// [`unsupported`](Self::unsupported) has it by name.
     ///
     /// ```
     /// use tivembo::{Act, Mode, Outcome, RuleSet, Transaction};
@@ -98,6 +100,37 @@ impl<'t> Phase<'t> {
     /// ```
     pub fn report(&self) -> Report {
         self.answer.report
+    }
+
+    /// The first unsupported directive of the units that this call closed, or none. The phase passed it over, and any
+    /// further ones too: they changed nothing.
+    ///
+    /// First goes by units, then by members, then by actions. Directives of rules that missed or are removed, and of a
+    /// chain that did not close, do not count; those of a unit that stops or allows the request do.
+    /// [`Records::unsupported_in`](crate::Records::unsupported_in) has the texts.
+    ///
+    /// ```
+    /// use tivembo::{Act, Mode, Outcome, RuleSet, Transaction};
+    ///
+    /// let mut builder = RuleSet::builder();
+    /// builder.rule(Some(20), true, &[Act::Id(20)]);
+    /// builder.rule(Some(21), false, &[Act::Id(21), Act::Ctl(b"ruleRemoveById", b"942100,abc")]);
+    /// let rules = builder.build()?;
+    /// let mut transaction = Transaction::new();
+    /// let phase = transaction.run_phase(&rules, 2, Mode::On, 403, &[Outcome::Matched; 2])?;
+    /// let first = phase.unsupported().expect("the list has a bad part");
+    /// assert_eq!((first.rule, first.reason.name()), (1, "id list"));
+    /// # Ok::<(), Box<dyn std::error::Error>>(())
+    /// ```
+    pub fn unsupported(&self) -> Option<UnsupportedDirective> {
+        let found = self.answer.report.unsupported;
+        (found.reason != 0).then(|| {
+            let reason = UnsupportedReason::from_number(found.reason);
+            UnsupportedDirective {
+                rule: found.index as usize,
+                reason: reason.expect("the contract has no other reason"),
+            }
+        })
     }
 
     /// The matched ids that this call added.

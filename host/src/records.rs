@@ -87,9 +87,10 @@ pub struct ReadRecord {
     /// 0 or a refusal's number.
     pub answer: u64,
     /// 0 unsupported, 1 ruleEngine, 2 ruleRemoveById, 3 ruleRemoveTargetById, 4 requestBodyAccess, 5
-    /// requestBodyProcessor.
+    /// requestBodyProcessor; 0 too where nothing was read.
     pub form: u64,
-    /// The number of a mode, an access or a processor, how many ranges, or where a target is cut.
+    /// The number of a reason (1 to 7), a mode, an access or a processor, how many ranges, or where a target is cut; 0
+    /// where nothing was read.
     pub value: u64,
 }
 
@@ -233,7 +234,19 @@ pub struct CallSettings {
     pub default_status: u64,
 }
 
-/// What a phase tells besides: how many of its visits found each verdict.
+/// An unsupported directive that a phase passed over: the rule that has it, and why. Both are 0 where there is none.
+#[repr(C)]
+#[derive(Debug, Clone, Copy, Default, PartialEq, Eq, Hash)]
+pub struct UnsupportedAt {
+    /// The index of the rule that has it.
+    pub index: u64,
+    /// 1 mode value, 2 id list, 3 target form, 4 body access value, 5 processor, 6 audit, 7 unrecognised; 0 where there
+    /// is none.
+    pub reason: u64,
+}
+
+/// What a phase tells besides: how many of its visits found each verdict, and the first unsupported directive of its
+/// closed units.
 #[repr(C)]
 #[derive(Debug, Clone, Copy, Default, PartialEq, Eq, Hash)]
 pub struct Report {
@@ -245,6 +258,8 @@ pub struct Report {
     pub removed: u64,
     /// How many met a rule error: one, with answer 10, or none.
     pub errors: u64,
+    /// The first unsupported directive of its closed units.
+    pub unsupported: UnsupportedAt,
 }
 
 /// What a phase call answers, the same from the walk to a host: 0, 10, or the number of a refusal; the index of the

@@ -5,7 +5,7 @@ use std::collections::HashMap;
 use crate::exported;
 use crate::limits::Broken;
 use crate::records::{Action, HostNumber, Marker, Part, Rule};
-use crate::{Act, Refusal};
+use crate::{Act, PassedOver, Refusal};
 
 /// The rules of one phase, with their actions, markers and texts. It is made once, with a [`Builder`], and lent to every
 /// call of that phase.
@@ -95,9 +95,29 @@ impl<'a> Records<'a> {
     }
 
     /// The actions of a rule, in order.
-    pub fn actions_of(&self, rule: &Rule) -> impl Iterator<Item = Act<'a>> + '_ {
+    pub fn actions_of(self, rule: &Rule) -> impl Iterator<Item = Act<'a>> {
         let positions = rule.first..rule.first.saturating_add(rule.count);
-        positions.map_while(|position| self.action(position))
+        positions.map_while(move |position| self.action(position))
+    }
+
+    /// The unsupported directives of the rule with this index, in the order of its actions: whenever its unit closes they
+    /// are passed over. This asks the proved directive reader; no call is needed, so a gateway can warn of them when it
+    /// reads its rules.
+    ///
+    /// ```
+    /// use tivembo::{Act, RuleSet};
+    ///
+    /// let mut builder = RuleSet::builder();
+    /// builder.rule(Some(20), false, &[Act::Id(20), Act::Ctl(b"ruleEngine", b"Of")]);
+    /// let rules = builder.build()?;
+    /// let passed: Vec<String> = rules.records().unsupported_in(0).map(|it| it.to_string()).collect();
+    /// let why = "ruleEngine takes one of the modes On, DetectionOnly and Off, as in ruleEngine=DetectionOnly";
+    /// assert_eq!(passed, [format!("ruleEngine=Of: {why}")]);
+    /// # Ok::<(), tivembo::Broken>(())
+    /// ```
+    pub fn unsupported_in(self, rule: usize) -> impl Iterator<Item = PassedOver<'a>> {
+        let rule = self.rules.get(rule).copied().unwrap_or_default();
+        self.actions_of(&rule).filter_map(PassedOver::of)
     }
 
     /// Where a `skipAfter` of this name leads, as [`RuleSet::marker_position`] says. This is the proved question.

@@ -1,8 +1,8 @@
 //! The crate's own enums have the numbers that the sources give to their cases.
 
-use tivembo::constants::{directive, kinds, mode, mode_setting, processor, verdict};
+use tivembo::constants::{directive, kinds, mode, mode_setting, processor, reason, verdict};
 use tivembo::raw::read_directive;
-use tivembo::{Act, BodyProcessor, Mode, Verdict};
+use tivembo::{Act, BodyProcessor, Mode, UnsupportedReason, Verdict};
 
 #[test]
 fn modes() {
@@ -47,6 +47,33 @@ fn processors() {
     ];
     let found = numbers.map(BodyProcessor::from_number);
     assert_eq!(found, processors.map(Some));
+}
+
+#[test]
+fn reasons() {
+    let numbers = [
+        reason::MODE_VALUE,
+        reason::ID_LIST,
+        reason::TARGET_FORM,
+        reason::BODY_ACCESS_VALUE,
+        reason::PROCESSOR,
+        reason::AUDIT,
+        reason::UNRECOGNISED,
+    ];
+    let reasons = [
+        UnsupportedReason::ModeValue,
+        UnsupportedReason::IdList,
+        UnsupportedReason::TargetForm,
+        UnsupportedReason::BodyAccessValue,
+        UnsupportedReason::Processor,
+        UnsupportedReason::Audit,
+        UnsupportedReason::Unrecognised,
+    ];
+    assert_eq!(reasons.map(UnsupportedReason::number), numbers);
+    let found = numbers.map(UnsupportedReason::from_number);
+    assert_eq!(found, reasons.map(Some));
+    let others = [0, 8, u64::MAX].map(UnsupportedReason::from_number);
+    assert_eq!(others, [None; 3]);
 }
 
 #[test]

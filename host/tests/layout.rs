@@ -91,13 +91,18 @@ fn call_settings() {
 }
 
 #[test]
+fn unsupported_at() {
+    layout!(UnsupportedAt, 16, 8, index 0, reason 8);
+}
+
+#[test]
 fn report() {
-    layout!(Report, 32, 8, missed 0, matched 8, removed 16, errors 24);
+    layout!(Report, 48, 8, missed 0, matched 8, removed 16, errors 24, unsupported 32);
 }
 
 #[test]
 fn answer() {
-    layout!(Answer, 56, 8, answer 0, error 8, visits 16, report 24);
+    layout!(Answer, 72, 8, answer 0, error 8, visits 16, report 24);
 }
 
 #[test]

@@ -1,5 +1,6 @@
 //! The directive reader. That it is the Rust's is shown by beside/directives; here, that the crate hands its answers on.
 
+use tivembo::UnsupportedReason::{self, *};
 use tivembo::{read_directive, BodyProcessor, Directive, Mode, Refusal, Target};
 
 #[track_caller]
@@ -62,18 +63,36 @@ fn ranges() {
     reads("ruleRemoveById", &most, ranges(&[(1, 1); 32_768]));
 }
 
+/// Which reason it is goes by the directive's name.
 #[test]
 fn unsupported() {
-    for value in [",", "", "1,5-4", "5-6-7", "-5", "5-", "+ 5", "abc"] {
-        reads("ruleRemoveById", value, Directive::Unsupported);
-    }
-    for (name, value) in [
-        ("auditEngine", "On"),
-        ("ruleEngine", "maybe"),
-        ("ruleRemoveTargetById", "1;"),
-        ("", ""),
-    ] {
-        reads(name, value, Directive::Unsupported);
+    let names: [(UnsupportedReason, &str, &[&str]); 9] = [
+        (
+            ModeValue,
+            " RULEengine\t",
+            &["", "Detection", "0", "On Off"],
+        ),
+        (
+            IdList,
+            "ruleRemoveById",
+            &[",", "", "1,5-4", "5-6-7", "-5", "5-", "+ 5", "abc"],
+        ),
+        (
+            TargetForm,
+            "ruleRemoveTargetById",
+            &["", "1", "1;", " ;ARGS"],
+        ),
+        (BodyAccessValue, "requestBodyAccess", &["", "yes"]),
+        (Processor, "requestBodyProcessor", &["", "YAML", "JSON,XML"]),
+        (Audit, "auditEngine", &["", "On", "RelevantOnly"]),
+        (Audit, "AUDITLOGPARTS", &["", "+E"]),
+        (Unrecognised, " \x0b ", &["", "On"]),
+        (Unrecognised, "ruleRemoveByTag", &["", "1"]),
+    ];
+    for (reason, name, values) in names {
+        for value in values {
+            reads(name, value, Directive::Unsupported(reason));
+        }
     }
 }
 
@@ -87,5 +106,5 @@ fn refusals() {
     assert_eq!(read_directive(&long, b"\xff"), Err(Refusal::TooLarge));
     assert_eq!(read_directive(b"\x80", b"1"), Err(Refusal::HighByte));
     let widest = read_directive(b"ruleRemoveById", &long[1..]);
-    assert_eq!(widest, Ok(Directive::Unsupported));
+    assert_eq!(widest, Ok(Directive::Unsupported(IdList)));
 }

@@ -6,7 +6,7 @@ use tivembo::raw::{self, Lent, Lists};
 use tivembo::{
     Act, Action, CallSettings, DataEntry, HostAnswer, HostControls, HostIntervention, HostMetadata,
     HostNumber, HostPlace, HostTransaction, JournalEntry, Marker, Part, Report, Rule, RuleSet,
-    MOST_RANGES, MOST_TARGETS,
+    UnsupportedAt, MOST_RANGES, MOST_TARGETS,
 };
 
 /// Controls in which every number of the arrays differs.
@@ -158,13 +158,12 @@ fn metadata() -> HostMetadata {
     }
 }
 
-/// Lends everything with a pattern in it, and compares everything after the call.
-fn check(stops: Act, wanted: &HostTransaction) {
-    let rules = rules(stops);
+/// A rule set as it is lent, with the numbers that a call is given.
+fn lent<'a>(rules: &'a RuleSet, phase: u64, outcomes: &'a [u8]) -> Lent<'a> {
     let records = rules.records();
-    let lent = Lent {
+    Lent {
         call: CallSettings {
-            phase: 3,
+            phase,
             mode: 0,
             default_status: 403,
         },
@@ -172,8 +171,14 @@ fn check(stops: Act, wanted: &HostTransaction) {
         actions: raw::words(records.actions),
         markers: records.markers,
         text: records.text,
-        outcomes: &[2, 2],
-    };
+        outcomes,
+    }
+}
+
+/// Lends everything with a pattern in it, and compares everything after the call.
+fn check(stops: Act, wanted: &HostTransaction) {
+    let rules = rules(stops);
+    let lent = lent(&rules, 3, &[2, 2]);
     let mut transaction = HostTransaction {
         controls: HostControls {
             ranges: 3,
@@ -251,32 +256,26 @@ fn the_flags_of_a_transaction_are_read() {
     assert_eq!(idle(&|t| t.controls.mode = 3), 0);
 }
 
+/// The rules of the phase below: six that miss, two that are removed, three that match, of which the first has a directive
+/// that is passed over, and one in error. So all numbers of its answer differ.
+fn twelve_rules() -> RuleSet {
+    let mut rules = RuleSet::builder();
+    for at in 0..12 {
+        let removed = (6..8).contains(&at).then_some(5);
+        let ctl = [Act::Ctl(b"foo", b"1")];
+        rules.rule(removed, false, if at == 8 { &ctl } else { &[] });
+    }
+    rules.build().expect("within the limits")
+}
+
 #[test]
 fn every_number_of_an_answer() {
-    let held = HostControls {
-        ranges: 1,
-        starts: std::array::from_fn(|_| 5),
-        ends: std::array::from_fn(|_| 5),
-        ..HostControls::default()
-    };
-    let mut transaction = HostTransaction {
-        controls: held,
-        ..HostTransaction::default()
-    };
-    // Three rules without an id, three that are removed, and two without an id, of which the second is in error.
-    let rules: Vec<u64> = (0..8u64)
-        .flat_map(|at| [u64::from((3..6).contains(&at)), 5, 0, 0, 0])
-        .collect();
-    let lent = Lent {
-        call: CallSettings {
-            phase: 1,
-            ..CallSettings::default()
-        },
-        rules: &rules,
-        outcomes: &[0, 0, 0, 3, 3, 3, 1, 3],
-        ..Lent::default()
-    };
-    let (mut ids, mut entries, mut journal) = ([0; 8], [0; 32], [0; 16]);
+    let mut transaction = HostTransaction::default();
+    transaction.controls.ranges = 1;
+    (transaction.controls.starts[0], transaction.controls.ends[0]) = (5, 5);
+    let rules = twelve_rules();
+    let lent = lent(&rules, 1, &[0, 0, 0, 0, 0, 0, 3, 3, 1, 1, 1, 3]);
+    let (mut ids, mut entries, mut journal) = ([0; 12], [0; 48], [0; 24]);
     let mut lists = Lists {
         ids: &mut ids,
         entries: &mut entries,
@@ -285,25 +284,39 @@ fn every_number_of_an_answer() {
     let answer = raw::run_phase(&mut transaction, &lent, &mut lists);
     let expected = HostAnswer {
         answer: 10,
-        error: 7,
-        visits: 8,
+        error: 11,
+        visits: 12,
         report: Report {
-            missed: 3,
-            matched: 1,
-            removed: 3,
+            missed: 6,
+            matched: 3,
+            removed: 2,
             errors: 1,
+            unsupported: UnsupportedAt {
+                index: 8,
+                reason: 7,
+            },
         },
     };
     assert_eq!(answer, expected);
-    assert_eq!(journal, [0, 0, 1, 0, 2, 0, 3, 2, 4, 2, 5, 2, 6, 1, 7, 3]);
+    let verdicts = [0, 0, 0, 0, 0, 0, 2, 2, 1, 1, 1, 3];
+    let visits = verdicts.into_iter().zip(0..);
+    let visits = visits.flat_map(|(verdict, index)| [index, verdict]);
+    assert_eq!(journal.to_vec(), visits.collect::<Vec<u64>>());
 }
 
 #[test]
 fn every_number_of_a_directive_and_of_a_marker() {
     let read = raw::read_directive(b"ruleRemoveTargetById", b"12;ARGS", &mut [], &mut []);
     assert_eq!((read.answer, read.form, read.value), (0, 3, 2));
+    // An unsupported directive has its reason as the value; where nothing is read both are 0.
+    let read = raw::read_directive(b"auditEngine", b"On", &mut [], &mut []);
+    assert_eq!((read.answer, read.form, read.value), (0, 0, 6));
     let read = raw::read_directive(b"ruleRemoveById", b"12", &mut [], &mut []);
     assert_eq!((read.answer, read.form, read.value), (7, 0, 0));
+    let read = raw::read_directive(b"foo", b"\x80", &mut [], &mut []);
+    assert_eq!((read.answer, read.form, read.value), (6, 0, 0));
+    let read = raw::read_directive(&[b' '; 65_537], b"", &mut [], &mut []);
+    assert_eq!((read.answer, read.form, read.value), (2, 0, 0));
 
     let name = Part { start: 1, len: 2 };
     let marker = Marker { name, position: 3 };

@@ -1,6 +1,6 @@
 //! What the published types hold after a call, as results of the case format.
 
-use case_format::{BodyProcessor, DirectiveAnswer, Mode};
+use case_format::{BodyProcessor, DirectiveAnswer, Mode, UnsupportedReason};
 use published::engine::control::{CtlDirective, RuleIdRange};
 use published::engine::intervention::Intervention;
 use published::engine::ruleset::RuleEngineMode;
@@ -57,6 +57,24 @@ pub(crate) fn intervention(new: &Intervention) -> case_format::Intervention {
     }
 }
 
+/// The published sentences that say why a directive is unsupported, in the order of 02's numbers.
+const SENTENCES: [&str; 7] = [
+    "ruleEngine accepts only On, Off or DetectionOnly",
+    "ruleRemoveById expects a rule ID or an ID range such as 942100-942999",
+    "ruleRemoveTargetById expects ID;TARGET, for example 942100;ARGS:token",
+    "requestBodyAccess accepts only On or Off",
+    "requestBodyProcessor accepts only URLENCODED, MULTIPART, JSON or XML",
+    "this engine has no audit log subsystem, so there is nothing to control",
+    "unrecognised ctl directive",
+];
+
+/// The reason that a published sentence gives.
+pub fn reason(sentence: &str) -> UnsupportedReason {
+    let known = SENTENCES.iter().position(|known| *known == sentence);
+    let reason = known.map(|at| UnsupportedReason::ALL[at]);
+    reason.unwrap_or_else(|| panic!("{sentence:?} is none of the seven reasons"))
+}
+
 /// What the published reader made of a directive.
 pub fn directive_answer(directive: &CtlDirective) -> DirectiveAnswer {
     match directive {
@@ -69,6 +87,40 @@ pub fn directive_answer(directive: &CtlDirective) -> DirectiveAnswer {
         CtlDirective::RequestBodyProcessor(name) => {
             DirectiveAnswer::BodyProcessor(body_processor(name))
         }
-        CtlDirective::Unsupported { .. } => DirectiveAnswer::Unsupported,
+        CtlDirective::Unsupported {
+            reason: sentence, ..
+        } => DirectiveAnswer::Unsupported(reason(sentence)),
+    }
+}
+
+#[cfg(test)]
+mod tests {
+    use super::*;
+    use crate::directive;
+
+    /// 02's numbers, by the directive's name.
+    #[test]
+    fn each_reason_has_its_number() {
+        for (name, value, number) in [
+            ("ruleEngine", "Yes", 1),
+            ("ruleRemoveById", "1,5-4", 2),
+            ("ruleRemoveTargetById", "942100", 3),
+            ("requestBodyAccess", "DetectionOnly", 4),
+            ("requestBodyProcessor", "YAML", 5),
+            ("auditEngine", "On", 6),
+            ("auditLogParts", "", 6),
+            ("ruleRemoveByTag", "x", 7),
+            ("\t", "On", 7),
+        ] {
+            let read = directive(name.as_bytes(), value.as_bytes());
+            let line = directive_answer(&read).to_string();
+            assert_eq!(line, format!("unsupported {number}"), "{name}={value}");
+        }
+    }
+
+    #[test]
+    #[should_panic(expected = "is none of the seven reasons")]
+    fn another_sentence_stops() {
+        reason("ruleEngine accepts only On or Off");
     }
 }

@@ -10,12 +10,12 @@ mod domain;
 mod feed;
 mod found;
 mod given;
+mod numbered;
 mod run;
-mod targets;
 mod timed;
 
 pub use domain::RustDomain;
-pub use found::directive_answer;
+pub use found::{directive_answer, reason};
 pub use run::{directive, run_case, Run};
 pub use timed::{Missed, Timed};
 

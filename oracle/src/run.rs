@@ -4,9 +4,10 @@ use case_format::{Answer, Call, CallResult, Case, CaseResult, Entry, Mode, Stop,
 use published::engine::control::CtlDirective;
 use published::engine::intervention::Intervention;
 use published::engine::transaction::{MatchedData, Transaction};
+use published::listen;
 use published::parser::VariableSpec;
 
-use crate::targets::Numbered;
+use crate::numbered::Numbered;
 use crate::{feed, found, given};
 
 /// A transaction and the calls made on it.
@@ -45,34 +46,37 @@ impl Run {
 
     /// Makes one call.
     ///
-    /// The transaction drops targets with unknown variable names. Where the call
-    /// has target directives, a second transaction that stands as this one does
-    /// before the call tells which of them were applied; see [`Numbered`].
+    /// The transaction drops targets with unknown variable names, and tells of an
+    /// unsupported directive only once, and not of which rule. Where the call has
+    /// such directives, a second transaction that stands as this one does before
+    /// the call tells which of them were applied; see [`Numbered`].
     pub fn call(&mut self, call: &Call) -> CallResult {
         let Some(numbered) = Numbered::of(call) else {
             return self.run_phase(call);
         };
         let mut second = self.second();
         let held = self.removed_targets().len();
-        let mut result = self.run_phase(call);
-        let second_result = second.run_phase(numbered.call());
+        let reported = self.transaction.controls().reported().clone();
+        let (mut result, said) = listen(|| self.run_phase(call));
+        let (second_result, numbers) = listen(|| second.run_phase(numbered.call()));
         assert_eq!(
             result, second_result,
-            "target directives changed something besides the targets"
+            "numbered directives changed something besides the targets and what is said"
         );
-        let added = numbered.added(&second.removed_targets()[held..]);
-        Numbered::check_kept(&added, &self.removed_targets()[held..]);
+        let (added, kept) = (second.removed_targets(), self.removed_targets());
+        let added = numbered.targets(&added[held..], &kept[held..]);
         let bytes = |(id, target): (String, String)| (id.into_bytes(), target.into_bytes());
         result.targets = added.into_iter().map(bytes).collect();
+        result.unsupported = numbered.unsupported(&numbers, &said, reported);
         result
     }
 
     /// Another transaction that holds what this one holds, as far as a call
-    /// looks at it.
+    /// looks at it, and has reported nothing yet.
     fn second(&self) -> Self {
         let transaction = Transaction::at_entry(
             self.block_status,
-            self.transaction.controls().clone(),
+            self.transaction.controls().with_nothing_reported(),
             self.transaction.allowed(),
             self.transaction.intervention().cloned(),
         );
@@ -86,7 +90,8 @@ impl Run {
         self.transaction.controls().removed_targets()
     }
 
-    /// Calls the published `run_phase` and reads all results but the targets.
+    /// Calls the published `run_phase` and reads all results but the targets and
+    /// the unsupported directive.
     fn run_phase(&mut self, call: &Call) -> CallResult {
         let ids = self.transaction.matched_rules().len();
         let data = self.transaction.matched_data().len();
@@ -114,6 +119,7 @@ impl Run {
             targets: Vec::new(),
             allowed: self.transaction.allowed(),
             intervention: self.stop(held),
+            unsupported: None,
         }
     }
 
@@ -142,4 +148,78 @@ fn data_entry(data: &MatchedData) -> (Option<u64>, u64) {
     let index = portion.and_then(|portion| portion.parse().ok());
     let index = index.expect("the portion of a match is the rule's index");
     (data.rule_id.as_deref().map(found::id), index)
+}
+
+#[cfg(test)]
+mod tests {
+    use super::*;
+    use case_format::text::or_dash;
+    use case_format::{Item, Reader};
+    use published::engine::control::TransactionControls;
+
+    /// What the calls of a case gave.
+    fn results(calls: &str) -> Vec<CallResult> {
+        let text = format!("case x\nmode On\nblock-status 403\n{calls}end\n");
+        let item = Reader::new(text.as_bytes()).item();
+        let Ok(Some(Item::Case(case))) = item else {
+            panic!("not a case: {item:?}");
+        };
+        run_case(&case).calls
+    }
+
+    fn unsupported(calls: &str) -> Vec<String> {
+        let pair = |call: &CallResult| or_dash(call.unsupported);
+        results(calls).iter().map(pair).collect()
+    }
+
+    /// The transaction reports it once, and each call tells it.
+    #[test]
+    fn the_same_directive_in_two_calls() {
+        let first = "call 1\nrule 1 matched\nctl \"foo\" \"1\"\n";
+        let second = "call 1\nrule 1 missed\nrule 2 matched\nctl \"foo\" \"1\"\n";
+        assert_eq!(unsupported(&format!("{first}{second}")), ["0 7", "1 7"]);
+        let nothing_to_do = "call 2\n";
+        assert_eq!(
+            unsupported(&format!("{first}{nothing_to_do}")),
+            ["0 7", "-"]
+        );
+    }
+
+    #[test]
+    fn the_same_directive_twice_in_a_call() {
+        let rules = "rule 1 matched\nctl \"foo\" \"1\"\nrule 2 matched\nctl \"foo\" \"1\"\n";
+        assert_eq!(unsupported(&format!("call 1\n{rules}")), ["0 7"]);
+    }
+
+    /// What was reported before may look like one of our numbers.
+    #[test]
+    fn a_value_like_a_number() {
+        let rule = |value: &str| format!("call 1\nrule 1 matched\nctl \"foo\" \"{value}\"\n");
+        assert_eq!(unsupported(&(rule("#0") + &rule("x"))), ["0 7", "0 7"]);
+    }
+
+    /// A target with an unknown variable name is reported too, but its directive is supported.
+    #[test]
+    fn a_target_that_is_dropped() {
+        let target = "ctl \"ruleRemoveTargetById\" \"1;NOTHING\"\n";
+        let call = format!("call 1\nrule 1 matched\n{target}{target}");
+        let found = results(&call);
+        assert_eq!((found[0].unsupported, found[0].targets.len()), (None, 2));
+        let more = "rule 2 matched\nctl \"auditEngine\" \"On\"\n";
+        assert_eq!(unsupported(&format!("{call}{more}")), ["1 6"]);
+    }
+
+    /// Of all that the published code says, only what it says of unsupported directives is heard.
+    #[test]
+    fn other_messages_are_dropped() {
+        let mut controls = TransactionControls::default();
+        let mut hear = |name: &str, value: &str| {
+            let directive = directive(name.as_bytes(), value.as_bytes());
+            listen(|| controls.apply(directive)).1.len()
+        };
+        assert_eq!(hear("ruleRemoveTargetById", "1;NOTHING"), 0);
+        assert_eq!(hear("ruleRemoveTargetById", "1;"), 1);
+        assert_eq!(hear("ruleRemoveTargetById", "1;"), 0);
+        assert_eq!(hear("ruleEngine", "On"), 0);
+    }
 }

@@ -1,16 +1,6 @@
-//! The directives, from 01's "Corners first": `CtlDirective::parse`.
+//! The directives, from 01's "Corners first" and 02's seven reasons: `CtlDirective::parse`.
 
-use case_format::{BodyProcessor, Mode};
-
-/// What a directive says.
-pub enum Directive {
-    Mode(Mode),
-    Access(bool),
-    Processor(BodyProcessor),
-    Ranges(Vec<(u64, u64)>),
-    Target(Vec<u8>, Vec<u8>),
-    Unsupported,
-}
+use case_format::{BodyProcessor, DirectiveAnswer as Directive, Mode, UnsupportedReason as Reason};
 
 const MODES: [(&[u8], Mode); 3] = [
     (b"On", Mode::On),
@@ -25,23 +15,30 @@ const PROCESSORS: [(&[u8], BodyProcessor); 4] = [
     (b"XML", BodyProcessor::Xml),
 ];
 
+/// What a directive says. None is refused: this reads what can be read.
 pub fn read(name: &[u8], value: &[u8]) -> Directive {
     let (name, value) = (trimmed(name), trimmed(value));
     let is = |known: &[u8]| name.eq_ignore_ascii_case(known);
-    let read = if is(b"ruleEngine") {
-        among(&MODES, value).map(Directive::Mode)
-    } else if is(b"requestBodyAccess") {
-        among(&ACCESS, value).map(Directive::Access)
-    } else if is(b"requestBodyProcessor") {
-        among(&PROCESSORS, value).map(Directive::Processor)
+    if is(b"ruleEngine") {
+        let mode = among(&MODES, value).map(Directive::Engine);
+        mode.unwrap_or(Directive::Unsupported(Reason::ModeValue))
     } else if is(b"ruleRemoveById") {
-        ranges(value).map(Directive::Ranges)
+        let ranges = ranges(value).map(Directive::Ranges);
+        ranges.unwrap_or(Directive::Unsupported(Reason::IdList))
     } else if is(b"ruleRemoveTargetById") {
-        target(value)
+        let target = target(value);
+        target.unwrap_or(Directive::Unsupported(Reason::TargetForm))
+    } else if is(b"requestBodyAccess") {
+        let access = among(&ACCESS, value).map(Directive::BodyAccess);
+        access.unwrap_or(Directive::Unsupported(Reason::BodyAccessValue))
+    } else if is(b"requestBodyProcessor") {
+        let processor = among(&PROCESSORS, value).map(Directive::BodyProcessor);
+        processor.unwrap_or(Directive::Unsupported(Reason::Processor))
+    } else if is(b"auditEngine") || is(b"auditLogParts") {
+        Directive::Unsupported(Reason::Audit)
     } else {
-        None
-    };
-    read.unwrap_or(Directive::Unsupported)
+        Directive::Unsupported(Reason::Unrecognised)
+    }
 }
 
 /// "trimmed of bytes 09 to 0D and 20 (hexadecimal)"

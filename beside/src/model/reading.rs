@@ -1,6 +1,6 @@
-//! Wrong readings of 01 that can be planted.
+//! Wrong readings of the papers that can be planted.
 
-/// A wrong reading. The first six are 01's "Readings that tempt".
+/// A wrong reading. The first six are 01's "Readings that tempt", the last two are of 02.
 #[derive(Debug, Clone, Copy, PartialEq, Eq)]
 pub enum Reading {
     RangeShort,
@@ -15,10 +15,12 @@ pub enum Reading {
     StatusActs,
     RemovedCloserBreaks,
     RemovedLinkAlone,
+    LastUnsupported,
+    UnsupportedAtStarter,
 }
 
 /// All of them, with their names and what they say.
-pub const READINGS: [(&str, Reading, &str); 12] = [
+pub const READINGS: [(&str, Reading, &str); 14] = [
     (
         "range-short",
         Reading::RangeShort,
@@ -78,5 +80,15 @@ pub const READINGS: [(&str, Reading, &str); 12] = [
         "removed-link-alone",
         Reading::RemovedLinkAlone,
         "a removed link is passed alone",
+    ),
+    (
+        "last-unsupported",
+        Reading::LastUnsupported,
+        "the last unsupported directive is told, not the first",
+    ),
+    (
+        "unsupported-at-starter",
+        Reading::UnsupportedAtStarter,
+        "an unsupported directive is told with the index of its unit's starter",
     ),
 ];

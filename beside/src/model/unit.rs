@@ -30,7 +30,7 @@ impl Walk<'_> {
         for &member in &members {
             let was_early = self.model.reads(R::LinkControlsEarly) && member != closing;
             if !was_early {
-                self.apply_controls(member);
+                self.apply_controls(member, starter);
             }
         }
         let mode = match self.model.reads(R::ModeBeforeControls) {

@@ -2,7 +2,9 @@
 
 use crate::case::Call;
 use crate::model::trimmed;
-use case_format::{Answer, BodyProcessor, Intervention, Mode, Stop, Verdict};
+use case_format::{
+    Answer, BodyProcessor, Intervention, Mode, Stop, Unsupported, UnsupportedReason, Verdict,
+};
 use tivembo::{Act, HostAnswer, HostControls, HostTransaction, Place};
 
 /// The answer, with 10 the index of the rule in error.
@@ -18,6 +20,15 @@ pub fn answer(answer: &HostAnswer) -> Answer {
 pub fn visit(entry: &[u64]) -> Option<(u64, Verdict)> {
     let verdict = Verdict::from_number(entry[1])?;
     Some((entry[0], verdict))
+}
+
+/// The unsupported directive that is told, if any; none where the two numbers stand for nothing, which is a fault of its own.
+pub fn unsupported(rule: u64, reason: u64) -> Option<Option<Unsupported>> {
+    if (rule, reason) == (0, 0) {
+        return Some(None);
+    }
+    let reason = UnsupportedReason::from_number(reason)?;
+    Some(Some(Unsupported { rule, reason }))
 }
 
 /// Mode, body access and body processor, each none where nothing set it.
@@ -114,4 +125,19 @@ pub fn target(call: &Call, place: Place) -> (Vec<u8>, Vec<u8>) {
 /// Stands for a text that is not there; no text of a case has such bytes.
 fn no_text(place: Place) -> Vec<u8> {
     format!("\u{80} no text at {place:?}").into_bytes()
+}
+
+#[cfg(test)]
+mod tests {
+    use super::*;
+
+    #[test]
+    fn unsupported_directives() {
+        let pair = |rule, reason| Some(Some(Unsupported { rule, reason }));
+        assert_eq!(unsupported(0, 0), Some(None));
+        assert_eq!(unsupported(0, 7), pair(0, UnsupportedReason::Unrecognised));
+        assert_eq!(unsupported(3, 1), pair(3, UnsupportedReason::ModeValue));
+        assert_eq!(unsupported(3, 0), None);
+        assert_eq!(unsupported(0, 8), None);
+    }
 }

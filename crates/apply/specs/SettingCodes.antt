@@ -19,15 +19,15 @@ accessSet s a = record { mode = s .mode; access = AccessSetting.Set a; processor
 abbrev pub processorSet : Settings → BodyProcessor → Settings
 processorSet s p = record { mode = s .mode; access = s .access; processor = ProcessorSetting.Set p }
 
--- the settings after a code; 0 and the codes from 10 on leave them
+-- the settings after a code; those below 8 and from 17 on leave them
 unfoldable pub settingsAfter : ℕ → Settings → Settings
 settingsAfter code s =
-    cond (eqb code 1) (modeSet s RuleEngineMode.On)
-    (cond (eqb code 2) (modeSet s RuleEngineMode.DetectionOnly)
-    (cond (eqb code 3) (modeSet s RuleEngineMode.Off)
-    (cond (eqb code 4) (accessSet s BodyAccess.On)
-    (cond (eqb code 5) (accessSet s BodyAccess.Off)
-    (cond (eqb code 6) (processorSet s BodyProcessor.Urlencoded)
-    (cond (eqb code 7) (processorSet s BodyProcessor.Multipart)
-    (cond (eqb code 8) (processorSet s BodyProcessor.Json)
-    (cond (eqb code 9) (processorSet s BodyProcessor.Xml) s))))))))
+    cond (eqb code 8) (modeSet s RuleEngineMode.On)
+    (cond (eqb code 9) (modeSet s RuleEngineMode.DetectionOnly)
+    (cond (eqb code 10) (modeSet s RuleEngineMode.Off)
+    (cond (eqb code 11) (accessSet s BodyAccess.On)
+    (cond (eqb code 12) (accessSet s BodyAccess.Off)
+    (cond (eqb code 13) (processorSet s BodyProcessor.Urlencoded)
+    (cond (eqb code 14) (processorSet s BodyProcessor.Multipart)
+    (cond (eqb code 15) (processorSet s BodyProcessor.Json)
+    (cond (eqb code 16) (processorSet s BodyProcessor.Xml) s))))))))

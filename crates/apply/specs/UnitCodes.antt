@@ -16,25 +16,25 @@ use Rattle.reading.specs.Controls.{Controls, withMode, withAccess, withProcesso
 use Rattle.reading.specs.Call.{noRule}
 use Rattle.reading.specs.Walk.{noAction}
 
--- what a code below 10 sets: 1 to 3 the mode, 4 and 5 the body access, 6 to 9 the processor
+-- what a code below 17 sets: 8 to 10 the mode, 11 and 12 the body access, 13 to 16 the processor, those below 8 nothing
 abbrev pub settingByCode : ℕ → Controls → Controls
 settingByCode code c =
-    cond (eqb code 1) (withMode c RuleEngineMode.On)
-    (cond (eqb code 2) (withMode c RuleEngineMode.DetectionOnly)
-    (cond (eqb code 3) (withMode c RuleEngineMode.Off)
-    (cond (eqb code 4) (withAccess c BodyAccess.On)
-    (cond (eqb code 5) (withAccess c BodyAccess.Off)
-    (cond (eqb code 6) (withProcessor c BodyProcessor.Urlencoded)
-    (cond (eqb code 7) (withProcessor c BodyProcessor.Multipart)
-    (cond (eqb code 8) (withProcessor c BodyProcessor.Json)
-    (cond (eqb code 9) (withProcessor c BodyProcessor.Xml) c))))))))
+    cond (eqb code 8) (withMode c RuleEngineMode.On)
+    (cond (eqb code 9) (withMode c RuleEngineMode.DetectionOnly)
+    (cond (eqb code 10) (withMode c RuleEngineMode.Off)
+    (cond (eqb code 11) (withAccess c BodyAccess.On)
+    (cond (eqb code 12) (withAccess c BodyAccess.Off)
+    (cond (eqb code 13) (withProcessor c BodyProcessor.Urlencoded)
+    (cond (eqb code 14) (withProcessor c BodyProcessor.Multipart)
+    (cond (eqb code 15) (withProcessor c BodyProcessor.Json)
+    (cond (eqb code 16) (withProcessor c BodyProcessor.Xml) c))))))))
 
--- the action of a code at a place, with the value that its ranges stand in: 10 adds the place as a target, 11 and more
+-- the action of a code at a place, with the value that its ranges stand in: 17 adds the place as a target, 18 and more
 -- adds the value's ranges, all or none
 unfoldable pub appliedCode : Place → List ℕ → ℕ → Controls → Controls
 appliedCode at value code c =
-    cond (leb code 9) (settingByCode code c)
-    (cond (eqb code 10) (withTarget c at) (withAllRanges c (rangesOf (removalValue (trim value)))))
+    cond (leb code 16) (settingByCode code c)
+    (cond (eqb code 17) (withTarget c at) (withAllRanges c (rangesOf (removalValue (trim value)))))
 
 -- what the coded actions are lent with: the phase, the text and the actions
 pub record Source : Type 0 where

@@ -1,5 +1,6 @@
 // Whether a closed unit's actions change the controls at all, by the codes of the module codes. A unit's members are the matched
 // entries of a lent part of the journal.
+use crate::codes;
 use reading::Rule;
 use reading::widths;
 use ruleset::rules;
@@ -34,7 +35,7 @@ fn rule_changes(rule: Rule, codes: &[u16]) -> bool
     let end = codes_end(codes.len(), first, rule.count as usize);
     let mut i = first;
     while i < end {
-        if codes[i] != 0 {
+        if codes::LAST_REASON < codes[i] {
             return true;
         }
         i += 1;

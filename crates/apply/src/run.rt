@@ -3,6 +3,7 @@
 use crate::append;
 use crate::append::ControlCounts;
 use crate::changes;
+use crate::codes;
 use crate::settings;
 use actions::record;
 use reading::Place;
@@ -23,7 +24,7 @@ ghost use Rattle.apply.specs.Append.{structOf};
 ghost use Rattle.apply.specs.UnitCodes.{appliedCode, ruleByCodes, unitByCodes};
 ghost use Rattle.apply.specs.ApplyUnit.{Turned};
 
-// The controls after the action at an index, by its code: up to 9 a setting, 10 the place as a target, all others the ranges
+// The controls after the action at an index, by its code: up to `XML` a setting or nothing, `TARGET` the place as a target, all others the ranges
 // of the value, which is read only here.
 fn apply(
     h: ControlCounts,
@@ -43,7 +44,7 @@ fn apply(
         (partOf (now (text .entry)) (getD (actionList (now (actions .entry))) i noAction .value)) code
         (controlsOf (structOf h (now (starts .entry)) (now (ends .entry)) (now (phases .entry)) (now (positions .entry))))) ⌝ }
 {
-    if code <= 9 {
+    if code <= codes::XML {
         let settings = settings::set_by_code(h.settings, code);
         let ranges = h.ranges;
         let targets = h.targets;
@@ -53,7 +54,7 @@ fn apply(
             targets,
         };
     }
-    if code == 10 {
+    if code == codes::TARGET {
         let at = Place {
             phase,
             position: i as u64,

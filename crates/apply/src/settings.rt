@@ -46,7 +46,7 @@ fn processor_set(s: Settings, processor: BodyProcessor) -> Settings
     }
 }
 
-// The settings after a code; 0 and the codes from 10 on leave them.
+// The settings after a code; those of no setting leave them.
 pub fn set_by_code(s: Settings, code: u16) -> Settings
     ensures { λ r. ⌜ r ≡ settingsAfter code s ⌝ }
 {

@@ -2,6 +2,7 @@
 use crate::case_text::Case;
 use actions::record;
 use control::state::Settings;
+use ctl::directive;
 use ctl::read;
 use libc::STDOUT_FILENO;
 use reading::Action;
@@ -9,11 +10,13 @@ use reading::CtlDirective;
 use reading::Intervention;
 use reading::JournalEntry;
 use reading::ModeSetting;
+use reading::OptionDirective;
 use reading::OptionIntervention;
 use reading::OptionU64;
 use reading::Part;
 use reading::Rule;
 use reading::RuleEngineMode;
+use reading::UnsupportedAt;
 use ruleset::rules;
 use text::ascii;
 use text::span;
@@ -562,6 +565,16 @@ pub fn write_end(allowed: bool, stop: OptionIntervention) {
         OptionIntervention::None => write(b"none"),
         OptionIntervention::Some(i) => write_stop(i),
     }
+}
+
+// The first unsupported directive of the closed units, where there is one, and the end of the line.
+pub fn write_unsupported(u: UnsupportedAt) {
+    if u.reason != 0 {
+        write(b" | unsupported ");
+        write_number(u.index);
+        write(b" ");
+        write_number(u.reason);
+    }
     write(b"\n");
 }
 
@@ -572,7 +585,11 @@ fn write_read<'a>(d: CtlDirective, starts: &'a [u64; 256], ends: &'a [u64; 256])
             write_mode(mode_number(mode));
         }
         CtlDirective::RuleRemoveById(n) => write_ranges(starts, ends, n),
-        _ => write(b" unsupported"),
+        CtlDirective::Unsupported(reason) => {
+            write(b" unsupported ");
+            write_number(directive::reason_number(reason) as u64);
+        }
+        _ => write(b" supported"),
     }
 }
 
@@ -590,12 +607,13 @@ pub fn write_directive_line(s: &[u8], a: Action) {
         &mut starts,
         &mut ends,
     );
-    let d = r.directive;
-    if r.answer == 0 {
-        write_read(d, &starts, &ends);
-    } else {
-        write(b" answer ");
-        write_number(r.answer);
+    let found = r.directive;
+    match found {
+        OptionDirective::Some(d) => write_read(d, &starts, &ends),
+        OptionDirective::None => {
+            write(b" answer ");
+            write_number(r.answer);
+        }
     }
     write(b"\n");
 }

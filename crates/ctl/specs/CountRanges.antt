@@ -17,4 +17,4 @@ countIn (ruleRemoveById rs) = RangeCount.Ranges (length rs)
 countIn (ruleRemoveTargetById id target) = RangeCount.Unsupported
 countIn (requestBodyAccess a) = RangeCount.Unsupported
 countIn (requestBodyProcessor p) = RangeCount.Unsupported
-countIn unsupported = RangeCount.Unsupported
+countIn (unsupported r) = RangeCount.Unsupported

@@ -8,14 +8,31 @@ use reading::CtlDirective;
 use reading::ModeSetting;
 use reading::ProcessorSetting;
 use reading::RuleEngineMode;
+use reading::UnsupportedReason;
 use text::ascii;
 use text::trim;
 ghost use mathlib.Core.Path.{_≡_};
 ghost use mathlib.Core.List.{List};
 ghost use Prim.Native.Nat.{ℕ};
 ghost use Rattle.reading.specs.Text.{fold};
-ghost use Rattle.reading.specs.Directive.{engineValue, accessValue, processorValue, removalValue, targetValue, directiveOf, withoutLists};
+ghost use Rattle.reading.specs.Numbers.{reasonNumber};
+ghost use Rattle.reading.specs.Directive.{engineValue, accessValue, processorValue, removalValue, targetValue, otherNamed, directiveOf, withoutLists};
 ghost use Rattle.ctl.specs.SettingNames.{engineBy, accessBy, processorBy, targetBy};
+
+// 02's number of a reason.
+pub fn reason_number(reason: UnsupportedReason) -> u16
+    ensures { λ r. ⌜ r ≡ reasonNumber reason ⌝ }
+{
+    match reason {
+        UnsupportedReason::ModeValue => 1,
+        UnsupportedReason::IdList => 2,
+        UnsupportedReason::TargetForm => 3,
+        UnsupportedReason::BodyAccessValue => 4,
+        UnsupportedReason::Processor => 5,
+        UnsupportedReason::Audit => 6,
+        UnsupportedReason::Unrecognised => 7,
+    }
+}
 
 // The mode that a value names.
 fn mode_named(value: &[u8]) -> ModeSetting
@@ -70,7 +87,7 @@ fn rule_engine(value: &[u8]) -> CtlDirective
     ensures { λ r. ⌜ ((lent : List ℕ) → r ≡ withoutLists lent (engineValue (fold (now (value .entry))))) ⌝ }
 {
     let ModeSetting::Set(mode) = mode_named(value) else {
-        return CtlDirective::Unsupported;
+        return CtlDirective::Unsupported(UnsupportedReason::ModeValue);
     };
     CtlDirective::RuleEngine(mode)
 }
@@ -79,7 +96,7 @@ fn rule_remove_by_id(value: &[u8]) -> CtlDirective
     ensures { λ r. ⌜ ((lent : List ℕ) → r ≡ withoutLists lent (removalValue (now (value .entry)))) ⌝ }
 {
     let RangeCount::Ranges(n) = range_count::count_ranges(value) else {
-        return CtlDirective::Unsupported;
+        return CtlDirective::Unsupported(UnsupportedReason::IdList);
     };
     CtlDirective::RuleRemoveById(n)
 }
@@ -88,7 +105,7 @@ fn request_body_access(value: &[u8]) -> CtlDirective
     ensures { λ r. ⌜ ((lent : List ℕ) → r ≡ withoutLists lent (accessValue (fold (now (value .entry))))) ⌝ }
 {
     let AccessSetting::Set(access) = access_named(value) else {
-        return CtlDirective::Unsupported;
+        return CtlDirective::Unsupported(UnsupportedReason::BodyAccessValue);
     };
     CtlDirective::RequestBodyAccess(access)
 }
@@ -97,7 +114,7 @@ fn request_body_processor(value: &[u8]) -> CtlDirective
     ensures { λ r. ⌜ ((lent : List ℕ) → r ≡ withoutLists lent (processorValue (fold (now (value .entry))))) ⌝ }
 {
     let ProcessorSetting::Set(processor) = processor_named(value) else {
-        return CtlDirective::Unsupported;
+        return CtlDirective::Unsupported(UnsupportedReason::Processor);
     };
     CtlDirective::RequestBodyProcessor(processor)
 }
@@ -133,9 +150,22 @@ fn rule_remove_target_by_id(value: &[u8], t: &[u8]) -> CtlDirective
     ensures { λ r. ⌜ r ≡ withoutLists (now (value .entry)) (targetValue (now (t .entry))) ⌝ }
 {
     let TargetCut::At(cut) = target_cut(value, t) else {
-        return CtlDirective::Unsupported;
+        return CtlDirective::Unsupported(UnsupportedReason::TargetForm);
     };
     CtlDirective::RuleRemoveTargetById(cut)
+}
+
+// A directive with none of the names that say something: of the audit log, which this engine has not, or unrecognised.
+fn unsupported_named(name: &[u8]) -> CtlDirective
+    ensures { λ r. ⌜ ((lent : List ℕ) → r ≡ withoutLists lent (otherNamed (fold (now (name .entry))))) ⌝ }
+{
+    if ascii::folds_to(name, b"auditengine") {
+        return CtlDirective::Unsupported(UnsupportedReason::Audit);
+    }
+    if ascii::folds_to(name, b"auditlogparts") {
+        return CtlDirective::Unsupported(UnsupportedReason::Audit);
+    }
+    CtlDirective::Unsupported(UnsupportedReason::Unrecognised)
 }
 
 // What a directive says; the ranges of ruleRemoveById are counted and not written.
@@ -159,5 +189,5 @@ pub fn parse(name: &[u8], value: &[u8]) -> CtlDirective
     if ascii::folds_to(directive, b"requestbodyprocessor") {
         return request_body_processor(v);
     }
-    CtlDirective::Unsupported
+    unsupported_named(directive)
 }

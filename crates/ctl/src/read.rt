@@ -2,6 +2,7 @@
 use crate::directive;
 use crate::id_ranges;
 use reading::CtlDirective;
+use reading::OptionDirective;
 use reading::limits;
 use text::high_bytes;
 use text::trim;
@@ -19,14 +20,14 @@ fn range_count(directive: CtlDirective) -> usize
         CtlDirective::RuleRemoveTargetById(_) => 0,
         CtlDirective::RequestBodyAccess(_) => 0,
         CtlDirective::RequestBodyProcessor(_) => 0,
-        CtlDirective::Unsupported => 0,
+        CtlDirective::Unsupported(_) => 0,
     }
 }
 
-// What the reader answers: 0 with the directive, or why the call is refused (2, 6 or 7) with `Unsupported`.
+// What the reader answers: 0 with the directive, or why the call is refused (2, 6 or 7) and none.
 pub struct ReadAnswer {
     pub answer: u64,
-    pub directive: CtlDirective,
+    pub directive: OptionDirective,
 }
 
 fn refusal_answer(answer: u64) -> ReadAnswer
@@ -34,7 +35,7 @@ fn refusal_answer(answer: u64) -> ReadAnswer
 {
     ReadAnswer {
         answer,
-        directive: CtlDirective::Unsupported,
+        directive: OptionDirective::None,
     }
 }
 
@@ -66,12 +67,12 @@ pub fn read_directive(name: &[u8], value: &[u8], starts: &mut [u64], ends: &mut 
     if n == 0 {
         return ReadAnswer {
             answer: 0,
-            directive,
+            directive: OptionDirective::Some(directive),
         };
     }
     id_ranges::write_ranges(trim::trim(value), starts, ends);
     ReadAnswer {
         answer: 0,
-        directive,
+        directive: OptionDirective::Some(directive),
     }
 }

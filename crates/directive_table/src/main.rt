@@ -3,6 +3,7 @@
 // A row is seven numbers of five digits, each with one byte after it: the lengths of name and value
 // in the row, how many fill bytes stand before each of them in its text, the fill byte, and the lengths
 // of the two lists; then name and value, and one byte more. oracle/make-directive-table writes the table.
+use ctl::directive;
 use ctl::read;
 use ctl::read::ReadAnswer;
 use libc::STDIN_FILENO;
@@ -10,7 +11,9 @@ use libc::STDOUT_FILENO;
 use reading::BodyAccess;
 use reading::BodyProcessor;
 use reading::CtlDirective;
+use reading::OptionDirective;
 use reading::RuleEngineMode;
+use reading::UnsupportedReason;
 use text::trim;
 ghost use Prim.Native.Nat.{_≤_};
 ghost use Rattle.io.specs.Counts.{Counts};
@@ -171,6 +174,11 @@ fn write_processor(p: BodyProcessor) {
     }
 }
 
+fn write_reason(reason: UnsupportedReason) {
+    write(b"unsupported ");
+    io::print_decimal(STDOUT_FILENO, directive::reason_number(reason) as u64);
+}
+
 fn write_directive(d: CtlDirective, value: &[u8], starts: &[u64], ends: &[u64]) {
     match d {
         CtlDirective::RuleEngine(m) => write_mode(m),
@@ -181,7 +189,7 @@ fn write_directive(d: CtlDirective, value: &[u8], starts: &[u64], ends: &[u64]) 
         CtlDirective::RuleRemoveTargetById(cut) => write_target(value, cut),
         CtlDirective::RequestBodyAccess(a) => write_access(a),
         CtlDirective::RequestBodyProcessor(p) => write_processor(p),
-        CtlDirective::Unsupported => write(b"unsupported"),
+        CtlDirective::Unsupported(reason) => write_reason(reason),
     }
 }
 
@@ -190,13 +198,6 @@ fn written(d: CtlDirective) -> usize {
     match d {
         CtlDirective::RuleRemoveById(count) => count,
         _ => 0,
-    }
-}
-
-fn is_supported(d: CtlDirective) -> bool {
-    match d {
-        CtlDirective::Unsupported => false,
-        _ => true,
     }
 }
 
@@ -220,17 +221,23 @@ fn write_changes(list: &[u64], from: usize, lent: u64) {
 
 // The row's line: the number of a refusal, or the directive, and what is not as it should be.
 fn write_line(read: ReadAnswer, value: &[u8], starts: &[u64], ends: &[u64]) {
-    let d = read.directive;
-    if read.answer == 0 {
-        write_directive(d, value, starts, ends);
-    } else {
+    let mut used = 0;
+    if read.answer != 0 {
         io::print_decimal(STDOUT_FILENO, read.answer);
-        if is_supported(d) {
-            write(b" and a directive");
+    }
+    let found = read.directive;
+    match found {
+        OptionDirective::None => {}
+        OptionDirective::Some(d) => {
+            if read.answer != 0 {
+                write(b" and ");
+            }
+            write_directive(d, value, starts, ends);
+            used = written(d);
         }
     }
-    write_changes(starts, written(d), START);
-    write_changes(ends, written(d), END);
+    write_changes(starts, used, START);
+    write_changes(ends, used, END);
     write(b"\n");
 }
 

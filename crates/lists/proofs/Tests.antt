@@ -1,10 +1,10 @@
--- Tests, joined, and of the entries of two lists in a row. Assumes nothing.
+-- Tests, joined, and of the entries of two lists in a row, and what these give. Assumes nothing.
 use Prim.Native.Nat.{ℕ}
-use mathlib.Core.Path.{_≡_, refl}
+use mathlib.Core.Path.{_≡_, refl, sym, ap, _∙_}
 use mathlib.Core.Bool.{Bool, true, false, _&&_, _||_}
-use mathlib.Core.List.{List, [], _∷_, _++_}
+use mathlib.Core.List.{List, [], _∷_, _++_, append-assoc}
 use native.Mathlib.Omega.{arith}
-use Rattle.reading.specs.Lists.{any}
+use Rattle.reading.specs.Lists.{any, gather}
 
 pub or-false-is : (a : Bool) → (a || false) ≡ a
 or-false-is true = refl
@@ -25,3 +25,8 @@ any-append test (x ∷ xs) ys = by (test x) (any-append test xs ys)
     by : (b : Bool) → any test (xs ++ ys) ≡ (any test xs || any test ys) → (b || any test (xs ++ ys)) ≡ (b || any test xs || any test ys)
     by true h = refl
     by false h = h
+
+pub gather-append : {A B : Type 0} (give : A → List B) (xs ys : List A) → gather give (xs ++ ys) ≡ gather give xs ++ gather give ys
+gather-append give [] ys = refl
+gather-append {A} {B} give (x ∷ xs) ys =
+    ap (λ (l : List B). give x ++ l) (gather-append give xs ys) ∙ sym (append-assoc (give x) (gather give xs) (gather give ys))

@@ -62,7 +62,7 @@ applied c at (ruleRemoveById rs) = withRanges c (addRanges (c .ranges) rs)
 applied c at (ruleRemoveTargetById id target) = withTargets c (addTarget (c .targets) at)
 applied c at (requestBodyAccess a) = withAccess c a
 applied c at (requestBodyProcessor p) = withProcessor c p
-applied c at unsupported = c
+applied c at (unsupported r) = c
 
 -- 01: "the one set last .., else the rule set's"
 abbrev pub modeOr : RuleEngineMode → ModeSetting → RuleEngineMode

@@ -28,8 +28,9 @@ pub record Accounted (q : Call) (o : Outcome) : Type 0 where
   -- "its journal holds exactly the visits of demand 2's walk, each as rule index and verdict, in order"
   pub visits : o .visits ≡ length (walkOf (q .given) (q .transaction))
   pub journal : foundJournal o ≡ journalOf (walkOf (q .given) (q .transaction))
-  -- what is told besides is told by that journal
-  pub report : o .report ≡ reportOf (foundJournal o)
+  -- what is told besides is told by that journal; of it the first unsupported directive by the journal's closed units alone. 02: "What is
+  -- found after a phase now includes this pair."
+  pub report : o .report ≡ reportOf (q .given) (foundJournal o)
   -- "the indexes strictly rising"
   pub rising : Rises (ruleCount (q .given)) 0 (foundJournal o)
   -- "Ids, data, controls and allow are then those at entry plus what 01's closed units of that whole journal give, in order."

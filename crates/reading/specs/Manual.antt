@@ -15,6 +15,7 @@ use Rattle.reading.specs.declared.Number.{Number}
 use Rattle.reading.specs.declared.Rule.{Rule}
 use Rattle.reading.specs.Lists.{any}
 use Rattle.reading.specs.Text.{ascii, same, trim, fold, digits, idPart}
+use Rattle.reading.specs.declared.UnsupportedReason.{UnsupportedReason}
 use Rattle.reading.specs.Directive.{Directive, ruleRemoveById, unsupported, removalValue}
 use Rattle.reading.specs.Controls.{Controls, isOn}
 use Rattle.reading.specs.Actions.{Placed, lastOf, lastFlow, flowBy}
@@ -112,8 +113,8 @@ rustStops g = true
 
 -- ctl:ruleRemoveById. The manual: one id, or one range.
 abbrev pub manualRemovalBy : IdPart → Directive
-manualRemovalBy IdPart.Blank = unsupported
-manualRemovalBy IdPart.Bad = unsupported
+manualRemovalBy IdPart.Blank = unsupported UnsupportedReason.IdList
+manualRemovalBy IdPart.Bad = unsupported UnsupportedReason.IdList
 manualRemovalBy (IdPart.Range r) = ruleRemoveById (r ∷ [])
 
 abbrev pub manualRemoval : List ℕ → Directive

@@ -12,7 +12,9 @@ use Rattle.reading.specs.declared.ProcessorSetting.{ProcessorSetting}
 use Rattle.reading.specs.declared.Verdict.{Verdict}
 use Rattle.reading.specs.declared.DisruptiveOutcome.{DisruptiveOutcome}
 use Rattle.reading.specs.declared.FlowOutcome.{FlowOutcome}
+use Rattle.reading.specs.declared.UnsupportedReason.{UnsupportedReason}
 use Rattle.reading.specs.declared.CtlDirective.{CtlDirective}
+use Rattle.reading.specs.declared.OptionDirective.{OptionDirective}
 use Rattle.reading.specs.declared.OptionU64.{OptionU64}
 
 -- 01: "0 (On), 1 (DetectionOnly) or 2 (Off)"
@@ -65,6 +67,16 @@ flowValue FlowOutcome.Chain = 0
 flowValue (FlowOutcome.Skip n) = n
 flowValue (FlowOutcome.SkipAfter at) = at
 
+-- 02: "mode value, id list, target form, body access value, processor, audit, unrecognised, numbered 1 to 7"
+abbrev pub reasonNumber : UnsupportedReason → ℕ
+reasonNumber UnsupportedReason.ModeValue = 1
+reasonNumber UnsupportedReason.IdList = 2
+reasonNumber UnsupportedReason.TargetForm = 3
+reasonNumber UnsupportedReason.BodyAccessValue = 4
+reasonNumber UnsupportedReason.Processor = 5
+reasonNumber UnsupportedReason.Audit = 6
+reasonNumber UnsupportedReason.Unrecognised = 7
+
 -- The papers give no number to the cases below; these are ours (docs/DECISIONS.md, D12).
 abbrev pub accessNumber : BodyAccess → ℕ
 accessNumber BodyAccess.On = 0
@@ -91,21 +103,30 @@ processorSettingNumber (ProcessorSetting.Set p) = ℕ.suc (processorNumber p)
 
 -- a directive's form
 abbrev pub directiveNumber : CtlDirective → ℕ
-directiveNumber CtlDirective.Unsupported = 0
+directiveNumber (CtlDirective.Unsupported r) = 0
 directiveNumber (CtlDirective.RuleEngine m) = 1
 directiveNumber (CtlDirective.RuleRemoveById n) = 2
 directiveNumber (CtlDirective.RuleRemoveTargetById cut) = 3
 directiveNumber (CtlDirective.RequestBodyAccess a) = 4
 directiveNumber (CtlDirective.RequestBodyProcessor p) = 5
 
--- and its value: a mode, access or processor by its number, how many ranges, or where a target is cut
+-- and its value: a reason, mode, access or processor by its number, how many ranges, or where a target is cut
 abbrev pub directiveValue : CtlDirective → ℕ
-directiveValue CtlDirective.Unsupported = 0
+directiveValue (CtlDirective.Unsupported r) = reasonNumber r
 directiveValue (CtlDirective.RuleEngine m) = modeNumber m
 directiveValue (CtlDirective.RuleRemoveById n) = n
 directiveValue (CtlDirective.RuleRemoveTargetById cut) = cut
 directiveValue (CtlDirective.RequestBodyAccess a) = accessNumber a
 directiveValue (CtlDirective.RequestBodyProcessor p) = processorNumber p
+
+-- where nothing was read both are 0, which is no reason's number (docs/DECISIONS.md, D174)
+abbrev pub readNumber : OptionDirective → ℕ
+readNumber OptionDirective.None = 0
+readNumber (OptionDirective.Some d) = directiveNumber d
+
+abbrev pub readValue : OptionDirective → ℕ
+readValue OptionDirective.None = 0
+readValue (OptionDirective.Some d) = directiveValue d
 
 -- a number or none: whether there is one, and the number
 abbrev pub presentNumber : OptionU64 → ℕ

@@ -59,7 +59,7 @@ outcomeOf q =
       answer = cond (isAccepted q) (answerBy vs) (refusalOf q);
       error = errorIndexBy vs;
       visits = length vs;
-      report = reportBy vs;
+      report = reportBy (q .given) vs;
       transaction = transactionAfter (q .given) (q .transaction) vs;
       lists = listsAfter (q .given) (q .transaction) (q .lists) vs;
     }

@@ -69,7 +69,20 @@ pub enum IdPart {
     Range(RuleIdRange),
 }
 
-// A directive as the reader answers it. The ranges of `RuleRemoveById` stand at the start of the
+// Why a directive is unsupported, by its name (the reasons of `CtlDirective::parse`): the value of a
+// ruleEngine, the ids of a ruleRemoveById, the form of a ruleRemoveTargetById, the value of a
+// requestBodyAccess, the name of a requestBodyProcessor, a directive of the audit log, or none of these.
+pub enum UnsupportedReason {
+    ModeValue,
+    IdList,
+    TargetForm,
+    BodyAccessValue,
+    Processor,
+    Audit,
+    Unrecognised,
+}
+
+// What a directive says. The ranges of `RuleRemoveById` stand at the start of the
 // lent lists, and the number here says how many; the number of `RuleRemoveTargetById` says where
 // in the value the ';' stands.
 pub enum CtlDirective {
@@ -78,7 +91,13 @@ pub enum CtlDirective {
     RuleRemoveTargetById(usize),
     RequestBodyAccess(BodyAccess),
     RequestBodyProcessor(BodyProcessor),
-    Unsupported,
+    Unsupported(UnsupportedReason),
+}
+
+// A directive that was read, or none: a refused call of the reader has none, and so no reason.
+pub enum OptionDirective {
+    None,
+    Some(CtlDirective),
 }
 
 // A part of a lent text.
@@ -166,7 +185,16 @@ pub struct JournalEntry {
     pub verdict: u64,
 }
 
-// What a phase tells besides: how many of its visits found each verdict.
+// An unsupported directive that a phase passed over: the rule that has it, and why. Both are 0 where there is none.
+#[repr(C)]
+pub struct UnsupportedAt {
+    // The index of the rule that has it.
+    pub index: u64,
+    // 1 mode value, 2 id list, 3 target form, 4 body access value, 5 processor, 6 audit, 7 unrecognised; 0 where there is none.
+    pub reason: u64,
+}
+
+// What a phase tells besides: how many of its visits found each verdict, and the first unsupported directive of its closed units.
 #[repr(C)]
 pub struct Report {
     // How many visits missed.
@@ -177,6 +205,8 @@ pub struct Report {
     pub removed: u64,
     // How many met a rule error: one, with answer 10, or none.
     pub errors: u64,
+    // The first unsupported directive of its closed units.
+    pub unsupported: UnsupportedAt,
 }
 
 // What a visit finds of its rule.

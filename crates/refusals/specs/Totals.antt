@@ -11,10 +11,10 @@ use Rattle.reading.specs.Limits.{mostRanges, mostTargets}
 
 -- how many ranges, and how many targets, the action of a code adds
 abbrev pub rangesOfCode : ℕ → ℕ
-rangesOfCode code = code - 11
+rangesOfCode code = code - 18
 
 abbrev pub targetsOfCode : ℕ → ℕ
-targetsOfCode code = cond (eqb code 10) 1 0
+targetsOfCode code = cond (eqb code 17) 1 0
 
 -- what a rule's actions add together, counted by their codes
 abbrev pub ruleWeight : (ℕ → ℕ) → List ℕ → Rule → ℕ

@@ -19,7 +19,7 @@ fn weight(code: u16, targets: bool) -> u32
         }
         return 0;
     }
-    if code < 12 {
+    if code <= codes::RANGES {
         return 0;
     }
     (code - codes::RANGES) as u32

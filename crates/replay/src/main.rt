@@ -12,13 +12,14 @@
 //     actions  := n (kind number text-start text-len value-start value-len)*
 //     markers  := n (name-start name-len position)*
 //     outcomes := n outcome*
-//     expected := answer error visits ids entries mode access processor ranges targets allowed stop
+//     expected := answer error visits ids entries mode access processor ranges targets allowed stop unsupported
 //     visits   := n (index verdict)*, without the removed: the Rust does not evaluate a removed rule
 //     ids      := n id*, those that the call added
 //     entries  := n (present id index)*, those that the call added; id 0 where there is none
 //     targets  := n (text text)*, those that the call added: rule id and target
 //     stop     := 0 none | 2 held before the call | 1 status drop url log ids phase metadata
 //     metadata := id msg logdata rev ver severity maturity accuracy
+//     unsupported := index reason, both 0 where there is none
 //
 // Mode, access and processor are 0 where not set, else 1 more than their number. The ranges of a result are all that are held.
 // In a stop, url, log, msg, logdata, rev and ver are 0, or 1 and a text; id, severity, maturity and accuracy are 0, or 1 and
@@ -38,6 +39,7 @@ use libc::STDIN_FILENO;
 use libc::STDOUT_FILENO;
 use reading::CallSettings;
 use reading::OptionIntervention;
+use reading::UnsupportedAt;
 use transaction::run_phase;
 use transaction::types::Phase;
 use transaction::types::Transaction;
@@ -259,6 +261,12 @@ fn run_given(
     )
 }
 
+// What is told of the first unsupported directive.
+fn compare_unsupported(c: Tally, e: Expected, told: UnsupportedAt) -> Tally {
+    let same = told.index == e.unsupported_index && told.reason == e.unsupported_reason;
+    c.told(same, b"unsupported")
+}
+
 // One call, and what it gave beside what is recorded.
 fn run_call(
     r: Replayed,
@@ -284,10 +292,12 @@ fn run_call(
         entries,
         &journal,
     );
+    let report = p.answer.report;
+    let whole = compare(t, list, bytes, g, e, before, after);
     Replayed {
         at: e.end,
         transaction: after,
-        tally: compare(t, list, bytes, g, e, before, after),
+        tally: compare_unsupported(whole, e, report.unsupported),
     }
 }
 

@@ -56,6 +56,8 @@ pub struct Expected {
     pub ranges: usize,
     pub targets: usize,
     pub stop: usize,
+    pub unsupported_index: u64,
+    pub unsupported_reason: u64,
     pub end: usize,
 }
 
@@ -311,6 +313,7 @@ pub fn expected_at(list: &[u64], at: usize) -> Expected {
     let targets = past_all(list, ranges, 2);
     let allowed = past_targets(list, targets);
     let stop = ahead(list, allowed, 1);
+    let unsupported = past_stop(list, stop);
     Expected {
         answer: number_at(list, at),
         error: number_after(list, at, 1),
@@ -324,7 +327,9 @@ pub fn expected_at(list: &[u64], at: usize) -> Expected {
         ranges,
         targets,
         stop,
-        end: past_stop(list, stop),
+        unsupported_index: number_at(list, unsupported),
+        unsupported_reason: number_after(list, unsupported, 1),
+        end: ahead(list, unsupported, 2),
     }
 }
 

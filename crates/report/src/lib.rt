@@ -1,1 +1,2 @@
+pub mod unsupported;
 pub mod verdicts;

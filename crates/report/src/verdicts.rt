@@ -1,21 +1,27 @@
-// How many visits of a phase found each verdict, told from its journal after the walk.
+// What a phase tells besides, from its journal after the walk: how many visits found each verdict, and the first unsupported
+// directive of its closed units, which the module unsupported finds.
+use crate::unsupported;
 use reading::Report;
+use reading::UnsupportedAt;
 use reading::widths;
 ghost use mathlib.Core.Path.{_≡_};
 ghost use mathlib.Core.Bool.{cond};
 ghost use lib.Dec.{eqb};
-ghost use Rattle.reading.specs.Records.{journalList};
-ghost use Rattle.reading.specs.Report.{noReport, reportOf};
+ghost use Rattle.reading.specs.Records.{ruleList, journalList};
+ghost use Rattle.reading.specs.Report.{noReport, noneUnsupported, reportWith};
+ghost use Rattle.report.specs.ByCodes.{unsupportedByCodes};
 
 // Of a call without a visit.
 pub fn no_report() -> Report
     ensures { λ r. ⌜ r ≡ noReport ⌝ }
 {
+    let unsupported = unsupported::none();
     Report {
         missed: 0,
         matched: 0,
         removed: 0,
         errors: 0,
+        unsupported,
     }
 }
 
@@ -29,9 +35,9 @@ fn one_if(verdict: u64, number: u64) -> u64
     0
 }
 
-// Of the entries of a journal.
-pub fn count_verdicts(entries: &[u64]) -> Report
-    ensures { λ r. ⌜ r ≡ reportOf (journalList (now (entries .entry))) ⌝ }
+// Of the entries of a journal, with an unsupported directive or none.
+fn count_verdicts(entries: &[u64], unsupported: UnsupportedAt) -> Report
+    ensures { λ r. ⌜ r ≡ reportWith (journalList (now (entries .entry))) unsupported ⌝ }
 {
     let n = entries.len() / widths::JOURNAL_ENTRY;
     let mut missed = 0u64;
@@ -55,5 +61,20 @@ pub fn count_verdicts(entries: &[u64]) -> Report
         matched,
         removed,
         errors,
+        unsupported,
     }
+}
+
+// Of the entries of a journal, by the codes of apply::codes. Where no action of the call is unsupported nothing is looked for.
+pub fn tell(entries: &[u64], rules: &[u64], codes: &[u16], some_unsupported: bool) -> Report
+    ensures { λ r. ⌜ r ≡ reportWith (journalList (now (entries .entry)))
+        (cond «some_unsupported» (unsupportedByCodes (now (codes .entry)) (ruleList (now (rules .entry))) (journalList (now (entries .entry)))) noneUnsupported) ⌝ }
+{
+    if some_unsupported {
+        return count_verdicts(
+            entries,
+            unsupported::first_unsupported(entries, rules, codes),
+        );
+    }
+    count_verdicts(entries, unsupported::none())
 }

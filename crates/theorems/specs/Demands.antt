@@ -130,7 +130,7 @@ demand3 q answered unallowed unstopped =
     record {
       visits = ap length vs;
       journal = found;
-      report = rw found (ap reportBy vs ∙ report-told (walkOf (q .given) (q .transaction)));
+      report = rw found (ap (reportBy (q .given)) vs ∙ report-told (q .given) (q .transaction));
       rising = rw found (indexes-rise (q .given) (q .transaction));
       ids = rw (found, vs, ← r .units);
       ids-used = rw (found, vs, ← r .units);
@@ -236,7 +236,7 @@ unfolding outcomeOf
 no-visits q e =
     record {
       visits = ap length e;
-      report = ap reportBy e;
+      report = ap (reportBy (q .given)) e;
       transaction = ap (transactionAfter (q .given) (q .transaction)) e ∙ transaction-kept (q .given) (q .transaction);
       lists = ap (listsAfter (q .given) (q .transaction) (q .lists)) e ∙ lists-kept (q .given) (q .transaction) (q .lists);
     }

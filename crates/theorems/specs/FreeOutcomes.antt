@@ -1,7 +1,7 @@
 -- 01's domain: "each rule that the Rust run evaluates has that run's outcome; the other rules' outcomes are free." The
 -- outcomes of rules that are passed or removed have no influence, for any reading.
 use Prim.Native.Nat.{ℕ, zero, suc, _+_}
-use mathlib.Core.Path.{_≡_, refl, sym, ap, subst, _∙_}
+use mathlib.Core.Path.{_≡_, refl, sym, ap, subst, fun-ext, _∙_}
 use mathlib.Core.List.{List, [], _∷_, _++_}
 use mathlib.Core.Logic.{_⊎_, inl, inr}
 use mathlib.Core.Bool.{Bool, true, false, not, cond, _&&_, _||_}
@@ -24,7 +24,8 @@ use Rattle.reading.specs.Call.{Given, Call, Transaction, ruleCount, ruleAt, isL
 use Rattle.reading.specs.Refusals.{badOutcome, refused1, refused2, refused3, refused4, refused5, refused6, refused7, refused8, refused9, ruleTotal, refusalOf, isAccepted}
 use Rattle.reading.specs.Units.{starterOf, memberData, dataEntry, unitData, actionControls, ruleControls, unitControls, unitFlow, unitDisruptive, unitIntervention, stopStatus, isAllow, isStopping}
 use Rattle.reading.specs.Walk.{State, Visit, allows, goesOn, stops, isLast, verdictBy, verdictAt, afterChain, jumpFrom, markerName, afterFlow, endingBy, visitBy, visitAt, isVisited, walk, walkOf, start, nothingToDo, entryOf, journalOf, closedIn, idsOf, dataOf, controlsAfter, allowedBy, interventionBy, answerBy, errorIndexBy}
-use Rattle.reading.specs.Report.{reportBy}
+use Rattle.reading.specs.declared.UnsupportedAt.{UnsupportedAt}
+use Rattle.reading.specs.Report.{memberUnsupported, unitUnsupported, firstOr, unsupportedBy, visitsWith, reportBy}
 use Rattle.reading.specs.Outcome.{visitsOf, outcomeOf, atFreeEnd, ifNone}
 
 -- the same with other outcomes
@@ -307,6 +308,26 @@ module _ (outcomes : List ℕ) (q : Call) (known : SameOutcomes (q .given) (with
       → dataOf (withOutcomes outcomes (q .given)) (visitsOf (callWithOutcomes outcomes q)) ≡ dataOf (q .given) (visitsOf q)
   entries-free h = ap (λ (vs : List Visit). dataOf (withOutcomes outcomes (q .given)) vs) (visits-free h) ∙ visits-data
 
+  -- no outcome is looked at for what is unsupported
+  members-unsupported : memberUnsupported (withOutcomes outcomes (q .given)) ≡ memberUnsupported (q .given)
+  unfolding memberUnsupported actionsAt ruleAt
+  members-unsupported = fun-ext (λ m. refl)
+
+  visits-unsupported : (vs : List Visit) → unsupportedBy (withOutcomes outcomes (q .given)) vs ≡ unsupportedBy (q .given) vs
+  visits-unsupported [] = refl
+  visits-unsupported (v ∷ vs) =
+      ap (λ (member : ℕ → List UnsupportedAt). firstOr (gather (gather member) (v .closed)) (unsupportedBy (withOutcomes outcomes (q .given)) vs)) members-unsupported
+      ∙ ap (firstOr (gather (unitUnsupported (q .given)) (v .closed))) (visits-unsupported vs)
+
+  report-free : (vs : List Visit) → reportBy (withOutcomes outcomes (q .given)) vs ≡ reportBy (q .given) vs
+  report-free vs = λ i. record {
+    missed = visitsWith Verdict.Missed vs;
+    matched = visitsWith Verdict.Matched vs;
+    removed = visitsWith Verdict.Removed vs;
+    errors = visitsWith Verdict.Error vs;
+    unsupported = visits-unsupported vs i;
+  }
+
   -- a call that is refused alike, or not at all, has the same outcome: answer, error, visits, report, transaction and lists
   refused-alike : refusalOf (callWithOutcomes outcomes q) ≡ refusalOf q → outcomeOf (callWithOutcomes outcomes q) ≡ outcomeOf q
   unfolding outcomeOf idAt ruleAt
@@ -314,11 +335,13 @@ module _ (outcomes : List ℕ) (q : Call) (known : SameOutcomes (q .given) (with
       let t : Transaction = q .transaction in
       let visits : visitsOf (callWithOutcomes outcomes q) ≡ visitsOf q = visits-free h in
       let entries = entries-free h in
+      let report : reportBy (withOutcomes outcomes (q .given)) (visitsOf (callWithOutcomes outcomes q)) ≡ reportBy (q .given) (visitsOf q) =
+      ap (reportBy (withOutcomes outcomes (q .given))) visits ∙ report-free (visitsOf q) in
       λ i. record {
         answer = cond (eqb (h i) 0) (answerBy (visits i)) (h i);
         error = errorIndexBy (visits i);
         visits = length (visits i);
-        report = reportBy (visits i);
+        report = report i;
         transaction = record {
           controls = controlsAfter (t .controls) (visits i);
           allowed = t .allowed || allowedBy (visits i);

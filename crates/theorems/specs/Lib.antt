@@ -4,6 +4,7 @@ pub mod Rising
 pub mod WithinLimits
 pub mod Answers
 pub mod Reported
+pub mod Reasons
 pub mod Demands
 pub mod Readings
 pub mod FreeOutcomes

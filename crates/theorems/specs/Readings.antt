@@ -22,7 +22,8 @@ use Rattle.reading.specs.declared.Rule.{Rule}
 use Rattle.reading.specs.declared.Action.{Action}
 use Rattle.reading.specs.declared.OptionIntervention.{OptionIntervention}
 use Rattle.reading.specs.Text.{ascii, same, trim, fold, digits, idParts, idPart, isBad, rangeIn, anyBad, rangesIn}
-use Rattle.reading.specs.Directive.{Directive, ruleRemoveById, unsupported, directiveNamed, directiveOf}
+use Rattle.reading.specs.declared.UnsupportedReason.{UnsupportedReason}
+use Rattle.reading.specs.Directive.{Directive, ruleRemoveById, unsupported, directiveNamed, directiveOf, reasonNamed}
 use Rattle.reading.specs.Controls.{Controls, isOn, isOff}
 use Rattle.reading.specs.Actions.{Placed, kindOf, lastFrom, lastOf, isFlow, flowBy, lastFlow, lastStatus}
 use Rattle.reading.specs.Markers.{later}
@@ -141,10 +142,10 @@ stops-agree q h = ap not (ne-eqb (q .settings .phase) 5 h)
 pub removals-agree : (value : List ℕ) → idParts value ≡ value ∷ [] → manualRemoval value ≡ rustRemoval value
 unfolding anyBad rangesIn
 removals-agree value h =
-    sym (ap (λ (ps : List (List ℕ)). cond (anyBad ps || eqb (length (rangesIn ps)) 0) unsupported (ruleRemoveById (rangesIn ps))) h ∙ by (idPart value))
+    sym (ap (λ (ps : List (List ℕ)). cond (anyBad ps || eqb (length (rangesIn ps)) 0) (unsupported UnsupportedReason.IdList) (ruleRemoveById (rangesIn ps))) h ∙ by (idPart value))
   where
     by : (p : IdPart)
-        → cond (isBad p || false || eqb (length (rangeIn p ++ [])) 0) unsupported (ruleRemoveById (rangeIn p ++ [])) ≡ manualRemovalBy p
+        → cond (isBad p || false || eqb (length (rangeIn p ++ [])) 0) (unsupported UnsupportedReason.IdList) (ruleRemoveById (rangeIn p ++ [])) ≡ manualRemovalBy p
     by IdPart.Blank = refl
     by IdPart.Bad = refl
     by (IdPart.Range r) = refl
@@ -231,21 +232,31 @@ pub walk-flows : (q : Given) (unit : List ℕ) → unitFlow q unit ≡ rustFlow 
 unfolding unitFlow
 walk-flows q unit = refl
 
--- a directive of another name is unsupported
-pub reader-names : (name value : List ℕ) → rustNames name ≡ false → directiveOf name value ≡ unsupported
+-- a directive of another name is unsupported, for the reason that goes by its name
+pub reader-names : (name value : List ℕ) → rustNames name ≡ false → directiveOf name value ≡ unsupported (reasonNamed (fold (trim name)))
 unfolding directiveOf
 reader-names name value h =
     let w : List ℕ = fold (trim name) in
-    by (same w (ascii "ruleengine")) (same w (ascii "ruleremovebyid")) (same w (ascii "ruleremovetargetbyid")) (same w (ascii "requestbodyaccess")) (same w (ascii "requestbodyprocessor")) _ _ _ _ _ h
+    by (same w (ascii "ruleengine")) (same w (ascii "ruleremovebyid")) (same w (ascii "ruleremovetargetbyid")) (same w (ascii "requestbodyaccess"))
+    (same w (ascii "requestbodyprocessor")) (same w (ascii "auditengine")) (same w (ascii "auditlogparts")) _ _ _ _ _ _ _ _ _ _ h
   where
-    by : (a b c d e : Bool) (va vb vc vd ve : Directive) → (a || (b || (c || (d || (e || false))))) ≡ false
-        → cond a va (cond b vb (cond c vc (cond d vd (cond e ve unsupported)))) ≡ unsupported
-    by true b c d e va vb vc vd ve h = absurd (let z : _≡_ {A = ℕ} 0 1 = cc in omega arith)
-    by false true c d e va vb vc vd ve h = absurd (let z : _≡_ {A = ℕ} 0 1 = cc in omega arith)
-    by false false true d e va vb vc vd ve h = absurd (let z : _≡_ {A = ℕ} 0 1 = cc in omega arith)
-    by false false false true e va vb vc vd ve h = absurd (let z : _≡_ {A = ℕ} 0 1 = cc in omega arith)
-    by false false false false true va vb vc vd ve h = absurd (let z : _≡_ {A = ℕ} 0 1 = cc in omega arith)
-    by false false false false false va vb vc vd ve h = refl
+    audit : (f g : Bool)
+        → cond f (unsupported UnsupportedReason.Audit) (cond g (unsupported UnsupportedReason.Audit) (unsupported UnsupportedReason.Unrecognised))
+        ≡ unsupported (cond (f || g) UnsupportedReason.Audit UnsupportedReason.Unrecognised)
+    audit true g = refl
+    audit false true = refl
+    audit false false = refl
+
+    by : (a b c d e f g : Bool) (va vb vc vd ve : Directive) (ra rb rc rd re : UnsupportedReason) → (a || (b || (c || (d || (e || false))))) ≡ false
+        → cond a va (cond b vb (cond c vc (cond d vd (cond e ve
+        (cond f (unsupported UnsupportedReason.Audit) (cond g (unsupported UnsupportedReason.Audit) (unsupported UnsupportedReason.Unrecognised)))))))
+        ≡ unsupported (cond a ra (cond b rb (cond c rc (cond d rd (cond e re (cond (f || g) UnsupportedReason.Audit UnsupportedReason.Unrecognised))))))
+    by true b c d e f g va vb vc vd ve ra rb rc rd re h = absurd (let z : _≡_ {A = ℕ} 0 1 = cc in omega arith)
+    by false true c d e f g va vb vc vd ve ra rb rc rd re h = absurd (let z : _≡_ {A = ℕ} 0 1 = cc in omega arith)
+    by false false true d e f g va vb vc vd ve ra rb rc rd re h = absurd (let z : _≡_ {A = ℕ} 0 1 = cc in omega arith)
+    by false false false true e f g va vb vc vd ve ra rb rc rd re h = absurd (let z : _≡_ {A = ℕ} 0 1 = cc in omega arith)
+    by false false false false true f g va vb vc vd ve ra rb rc rd re h = absurd (let z : _≡_ {A = ℕ} 0 1 = cc in omega arith)
+    by false false false false false f g va vb vc vd ve ra rb rc rd re h = audit f g
 
 -- and a removal's value is read so
 pub reader-removals : (value : List ℕ) → directiveNamed (ascii "ruleremovebyid") value ≡ rustRemoval value

@@ -150,7 +150,7 @@ ranges-counted = record { by-one = one }
     one c at (ruleRemoveTargetById id target) = omega arith
     one c at (requestBodyAccess a) = omega arith
     one c at (requestBodyProcessor p) = omega arith
-    one c at unsupported = omega arith
+    one c at (unsupported r) = omega arith
 
 targets-counted : Counted (λ c. length (c .targets)) targetCount
 targets-counted = record { by-one = one }
@@ -161,7 +161,7 @@ targets-counted = record { by-one = one }
     one c at (ruleRemoveTargetById id target) = length-append (c .targets) (at ∷ [])
     one c at (requestBodyAccess a) = omega arith
     one c at (requestBodyProcessor p) = omega arith
-    one c at unsupported = omega arith
+    one c at (unsupported r) = omega arith
 
 module _ (q : Given) (count : Controls → ℕ) (given : Directive → ℕ) (counted : Counted count given) where
   actions-count : (ps : List Placed) (c : Controls)

@@ -267,7 +267,7 @@ module _ (g : Given) (t : Transaction) (l : LentLists) where
           ))
 
       -- with the report that the journal tells
-      module _ (told : Report) (told-is : told ≡ reportOf (journalList (take (2 * r .answer .visits) (l′ .journal)))) where
+      module _ (told : Report) (told-is : told ≡ reportOf g (journalList (take (2 * r .answer .visits) (l′ .journal)))) where
         abbrev reported : Phase
         reported = record {
           answer = record { answer = r .answer .answer; error = r .answer .error; visits = r .answer .visits; report = told };
@@ -283,7 +283,9 @@ module _ (g : Given) (t : Transaction) (l : LentLists) where
             let error : r .answer .error ≡ outcomeOf q .error = w .error ∙ ap errorIndexBy back in
             let visits : r .answer .visits ≡ outcomeOf q .visits = w .visits ∙ ap length back in
             let report : told ≡ outcomeOf q .report =
-            told-is ∙ (ap reportOf journal-told ∙ (sym (report-told vs) ∙ ap reportBy back)) in
+            told-is
+            ∙ (ap (reportOf g) (journal-told ∙ ap journalOf (sym walk-is))
+            ∙ (sym (report-told g entry) ∙ (ap (reportBy g) walk-is ∙ ap (reportBy g) back))) in
             let found : journalList (l′ .journal) ≡ outcomeOf q .lists .journal =
             journal-is ∙ ap (λ (m : List Visit). over (journalList (l .journal)) (journalOf m)) back in
             let listed : l′ .ids ≡ outcomeOf q .lists .ids =

@@ -1,18 +1,18 @@
 -- What the tests of the phase call say of its refusals, and that nothing is to do, from what its callees leave.
 use Prim.Native.Nat.{ℕ, _*_, _/_, _≤_}
 use mathlib.Core.Path.{_≡_, refl, sym, ap, subst, _∙_}
-use mathlib.Core.Bool.{Bool, true, false, _||_}
+use mathlib.Core.Bool.{Bool, true, false, cond, _||_}
 use mathlib.Core.List.{List}
 use lib.ListN.{length, take, replicate}
 use lib.Dec.{eqb}
 use Rattle.reading.specs.declared.RuleEngineMode.{RuleEngineMode}
-use Rattle.reading.specs.Lists.{over}
+use Rattle.reading.specs.Lists.{any, over}
 use Rattle.reading.specs.Numbers.{modeOfNumber}
 use Rattle.reading.specs.Controls.{isOff, modeOr}
 use Rattle.reading.specs.Records.{ruleList, actionList, markerList, journalList, givenOf, LentLists}
 use Rattle.reading.specs.declared.CallSettings.{CallSettings}
 use Rattle.reading.specs.declared.Report.{Report}
-use Rattle.reading.specs.Report.{reportOf}
+use Rattle.reading.specs.Report.{noneUnsupported, reportWith, reportOf}
 use Rattle.reading.specs.Call.{Given, Call}
 use Rattle.reading.specs.Walk.{isStopped, nothingToDo}
 use Rattle.reading.specs.Refusals.{refusalOf}
@@ -20,7 +20,9 @@ use Rattle.lists.proofs.RecordLaws.{length-rules}
 use Rattle.lists.proofs.RecordLaws.{length-actions}
 use Rattle.control.specs.ControlsStruct.{controlsOf}
 use Rattle.control.proofs.state.HeldLaws.{ranges-length, targets-length}
-use Rattle.apply.specs.Codes.{codesOf}
+use Rattle.apply.specs.Codes.{codesOf, isReason}
+use Rattle.report.specs.ByCodes.{unsupportedByCodes}
+use Rattle.report.proofs.unsupported.Coded.{told-where}
 use Rattle.refusals.specs.Totals.{limitRefusal}
 use Rattle.refusals.proofs.totals.Refused.{limit-is, codes-fit, codes-front}
 use Rattle.refusals.specs.declared.first.Sizes.{Sizes}
@@ -116,6 +118,14 @@ module _ (g : Lent) where
           ∙ (ap (limitRefusal (ruleList (g .rules)) (take 4096 codes) (length (q .transaction .controls .ranges))) (sym (targets-length (g .t .controls)))
           ∙ (limit-is q few ∙ sym (past-seven q z)))))
 
+      -- what is told besides of a journal, by the codes
+      pub told-at : (c entries : List ℕ) (some : Bool) (told : Report) → c ≡ d → some ≡ any isReason (take 4096 codes)
+          → told ≡ reportWith (journalList entries) (cond some (unsupportedByCodes c (ruleList (g .rules)) (journalList entries)) noneUnsupported)
+          → told ≡ reportOf (givenIn g) (journalList entries)
+      told-at c entries some told ce is t =
+          t ∙ ap (reportWith (journalList entries))
+          (told-where (g .call) (ruleList (g .rules)) (actionList (g .actions)) (markerList (g .markers)) (g .text) (g .outcomes) c (ce ∙ e) few some is (journalList entries))
+
   -- the answers that leave everything as it was lent
   abbrev RanAs : Phase → Type 0
   RanAs r = Ran (givenIn g) (g .t) (g .lists) r (g .lists)
@@ -150,7 +160,7 @@ module _ (g : Lent) where
       pub visited-at : 2 * r .answer .visits ≤ length (l .journal)
       visited-at = visited-within (givenIn g) (g .t) (g .lists) a h r l walked
 
-      pub ran-at : (told : Report) → told ≡ reportOf (journalList (take (2 * r .answer .visits) (l .journal)))
+      pub ran-at : (told : Report) → told ≡ reportOf (givenIn g) (journalList (take (2 * r .answer .visits) (l .journal)))
           → Ran (givenIn g) (g .t) (g .lists)
           (record {
             answer = record { answer = r .answer .answer; error = r .answer .error; visits = r .answer .visits; report = told };

@@ -78,7 +78,7 @@ pub fn run_phase(
         return as_lent(refusal, t);
     }
     let mut codes = [0u16; limits::ACTIONS];
-    codes::write_codes(actions, text, &mut codes[0..]);
+    let some_unsupported = codes::write_codes(actions, text, &mut codes[0..]);
     let used = actions.len() / widths::ACTION;
     let limit = totals::limit_refusal(rules, &codes[0..used], ranges, targets);
     if limit != 0 {
@@ -106,7 +106,12 @@ pub fn run_phase(
     );
     let visited = widths::JOURNAL_ENTRY * p.answer.visits as usize;
     let mut answer = p.answer;
-    let report = verdicts::count_verdicts(&journal[0..visited]);
+    let report = verdicts::tell(
+        &journal[0..visited],
+        rules,
+        &codes[0..limits::ACTIONS],
+        some_unsupported,
+    );
     answer.report = report;
     p.answer = answer;
     p

@@ -1,7 +1,8 @@
 //! What a call and the directive reader gave, as the case format has it.
 
 use case_format::{
-    Answer, BodyProcessor, CallResult, DirectiveAnswer, Intervention, Mode, Stop, Verdict,
+    Answer, BodyProcessor, CallResult, DirectiveAnswer, Intervention, Mode, Stop, Unsupported,
+    UnsupportedReason, Verdict,
 };
 use tivembo::{Directive, Phase, Refusal, RuleSets};
 
@@ -28,6 +29,7 @@ pub fn result(walked: &Walked) -> CallResult {
             Some(_) if walked.held => Stop::Held,
             Some(new) => Stop::New(Box::new(intervention(&new, &walked.texts()))),
         },
+        unsupported: phase.and_then(unsupported),
     }
 }
 
@@ -54,6 +56,18 @@ fn visits(phase: &Phase) -> Vec<(u64, Verdict)> {
 
 fn data(phase: &Phase) -> Vec<(Option<u64>, u64)> {
     phase.data().map(|entry| (entry.id, entry.index)).collect()
+}
+
+fn unsupported(phase: &Phase) -> Option<Unsupported> {
+    let found = phase.unsupported()?;
+    Some(Unsupported {
+        rule: found.rule as u64,
+        reason: reason(found.reason),
+    })
+}
+
+fn reason(reason: tivembo::UnsupportedReason) -> UnsupportedReason {
+    UnsupportedReason::from_number(reason.number()).expect("both have 02's reasons")
 }
 
 fn mode(mode: tivembo::Mode) -> Mode {
@@ -98,7 +112,7 @@ pub fn directive(read: &Result<Directive, Refusal>) -> DirectiveAnswer {
         Ok(Directive::RequestBodyProcessor(name)) => {
             DirectiveAnswer::BodyProcessor(body_processor(*name))
         }
-        Ok(Directive::Unsupported) => DirectiveAnswer::Unsupported,
+        Ok(Directive::Unsupported(why)) => DirectiveAnswer::Unsupported(reason(*why)),
         Err(refusal) => DirectiveAnswer::Refused(refusal.number()),
     }
 }

@@ -7,11 +7,11 @@ use case_format::{
     Action, Answer, BodyProcessor, CallResult, Directive, Entry, Intervention, Kind, Mode,
     Operands, Rule, Stop,
 };
-use tivembo::{Phase, Refusal, Report};
+use tivembo::{PassedOver, Phase, Refusal, Report, UnsupportedReason, Verdict};
 
 use crate::results;
 use crate::run::Walked;
-use crate::story::story;
+use crate::story::{story, Seen};
 
 /// How wide the columns of rules and of actions are at least, and at most; longer entries push the rest of their line.
 const RULE: (usize, usize) = (11, 25);
@@ -41,7 +41,9 @@ pub fn print_call(out: &mut impl Write, walked: &Walked) -> Result<()> {
         }
     }
     print_field(out, "controls", &controls(walked, &found))?;
-    print_field(out, "request", &request(walked, &found))
+    print_field(out, "request", &request(walked, &found))?;
+    let first = passed_over(walked);
+    first.map_or(Ok(()), |first| print_field(out, "ctl", &first))
 }
 
 /// Prints what the directive reader said.
@@ -51,6 +53,7 @@ pub fn print_directive(
     read: &std::result::Result<tivembo::Directive, Refusal>,
 ) -> Result<()> {
     let said = match read {
+        Ok(tivembo::Directive::Unsupported(reason)) => unsupported(*reason, ""),
         Ok(_) => results::directive(read).to_string(),
         Err(refusal) => format!("refused with {}: {refusal}", refusal.number()),
     };
@@ -146,8 +149,49 @@ fn print_rules(out: &mut impl Write, walked: &Walked, phase: &Phase) -> Result<(
         let line =
             format!("  {at:>digits$}  {name:<rule$}  {actions:<action$}  {verdict:<7}  {words}");
         writeln!(out, "{}", line.trim_end())?;
+        let column = " ".repeat(digits + rule + 6);
+        for note in notes(walked, at, seen) {
+            writeln!(out, "{column}{note}")?;
+        }
     }
     Ok(())
+}
+
+/// What the directive reader says of each unsupported directive of a matched rule. Where a chain does not close none of its
+/// directives acts, and the line `ctl` does not count them; so that is said too.
+fn notes(walked: &Walked, at: usize, seen: &Seen) -> Vec<String> {
+    if seen.verdict != Some(Verdict::Matched) {
+        return Vec::new();
+    }
+    let open = if seen.closed {
+        ""
+    } else {
+        ", in a chain that does not close"
+    };
+    let found = walked.rules.records().unsupported_in(at);
+    let note = |it: PassedOver| {
+        let said = unsupported(it.reason, open);
+        format!("{}  {said}", setting(it.name, it.value))
+    };
+    found.map(note).collect()
+}
+
+/// The case format's words, what else there is to say, and the sentence.
+fn unsupported(reason: UnsupportedReason, more: &str) -> String {
+    format!("unsupported {}{more}: {reason}", reason.number())
+}
+
+/// The first unsupported directive of the closed units, as the call tells it, with its text. The sentence stands at the rule.
+fn passed_over(walked: &Walked) -> Option<String> {
+    let first = walked.result.as_ref().ok()?.unsupported()?;
+    let rule = rule_name(&walked.call.rules[first.rule]);
+    let mut texts = walked.rules.records().unsupported_in(first.rule);
+    let text = texts.next().expect("the call's rules have it");
+    let text = setting(text.name, text.value);
+    let (at, number, name) = (first.rule, first.reason.number(), first.reason.name());
+    Some(format!(
+        "first passed over at {at}, {rule}: {text}, reason {number}, {name}"
+    ))
 }
 
 fn width(entries: &[String], (least, most): (usize, usize)) -> usize {

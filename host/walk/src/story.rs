@@ -11,6 +11,8 @@ use crate::show::plain;
 pub struct Seen {
     pub verdict: Option<Verdict>,
     pub words: String,
+    /// Whether it is a member of a closed unit, so that its directives acted.
+    pub closed: bool,
 }
 
 /// One for each rule of the call.
@@ -20,6 +22,7 @@ pub fn story(walked: &Walked, phase: &Phase) -> Vec<Seen> {
         phase,
         records: walked.rules.records(),
         open: Vec::new(),
+        closed: Vec::new(),
         passing: why_idle(walked),
     };
     let mut visits = phase.visits().peekable();
@@ -31,10 +34,16 @@ pub fn story(walked: &Walked, phase: &Phase) -> Vec<Seen> {
             Seen {
                 verdict: Some(verdict),
                 words,
+                closed: false,
             }
         }
     });
-    seen.collect()
+    let mut seen: Vec<Seen> = seen.collect();
+    // Whether a link's unit closes is known at a later rule.
+    for index in story.closed {
+        seen[index].closed = true;
+    }
+    seen
 }
 
 /// Why a call without a visit had none.
@@ -53,6 +62,8 @@ struct Story<'a> {
     records: Records<'a>,
     /// The matched links that wait for their closing rule.
     open: Vec<usize>,
+    /// The members of closed units.
+    closed: Vec<usize>,
     /// Why the rules after the last visit are passed.
     passing: String,
 }
@@ -62,6 +73,7 @@ impl Story<'_> {
         Seen {
             verdict: None,
             words: self.passing.clone(),
+            closed: false,
         }
     }
 
@@ -134,6 +146,7 @@ impl Story<'_> {
         self.passing = self.flow(unit[0], index);
         let members: Vec<String> = unit.iter().map(usize::to_string).collect();
         let effect = self.effect(unit[0], is_last);
+        self.closed.extend(unit);
         format!("closes unit {}{effect}", members.join(" "))
     }
 

@@ -73,7 +73,8 @@ fn a_walk_shows_every_rule() {
         "  visits    1 of 2 rules: 1 matched",
         "  visits    0 of 0 rules",
         "  request   stopped, status 403, ids 43 41",
-        "ruleRemoveById=\"1,5-4\"  unsupported",
+        "ruleRemoveById=\"1,5-4\"  unsupported 2: ruleRemoveById takes rule ids and ranges, separated by commas, as in ruleRemoveById=942100-942999,43; one bad part, such as 5-4, spoils the whole list",
+        "  ctl       first passed over at 0, rule 2: ruleRemoveById=\",\", reason 2, id list",
     ] {
         assert!(walk.lines().any(|found| found == line), "{line}");
     }
@@ -99,7 +100,7 @@ fn every_field_of_an_intervention() {
         ctl "ruleRemoveTargetById" " 1 ; ARGS"
     "#;
     let output = walk(&["--results"], &one_rule(actions));
-    let results = "case X\ncall 1\nanswer 0\nvisits 0:matched\nids 5\ndata 5@0\nmode -\nbody-access -\nbody-processor -\nranges\ntargets \"1\";\"ARGS\"\nallowed no\nintervention status=302 drop=no url=\"http://x/\\\"\\\\\\x09\" log=\"m\" ids=5,6 phase=1 id=6 msg=\"m\" logdata=\"l\" rev=\"r\" ver=\"v\" severity=1 maturity=2 accuracy=3\nend\n";
+    let results = "case X\ncall 1\nanswer 0\nvisits 0:matched\nids 5\ndata 5@0\nmode -\nbody-access -\nbody-processor -\nranges\ntargets \"1\";\"ARGS\"\nallowed no\nintervention status=302 drop=no url=\"http://x/\\\"\\\\\\x09\" log=\"m\" ids=5,6 phase=1 id=6 msg=\"m\" logdata=\"l\" rev=\"r\" ver=\"v\" severity=1 maturity=2 accuracy=3\nunsupported -\nend\n";
     assert_eq!(out(&output), results);
 }
 
@@ -151,11 +152,115 @@ fn calls_of_one_case_go_on_with_one_transaction() {
     assert!(results.contains("call 2\nanswer 0\nvisits 0:removed 1:matched\nids 3\ndata\n"));
     assert!(results.contains("body-access Off\nbody-processor XML\nranges 2-2\n"));
     assert!(results.contains("intervention status=444 drop=yes url=- log=- ids=3 phase=2 id=-"));
-    assert!(results.ends_with("allowed no\nintervention held\nend\n"));
+    assert!(results.ends_with("allowed no\nintervention held\nunsupported -\nend\n"));
     let output = walk(&[], text);
     let shown = out(&output);
     assert!(shown.contains("request   stopped, status 444, ids 3, connection dropped\n"));
     assert!(shown.ends_with("request   stopped before this call\n"));
+}
+
+/// A call of phase 2 in mode On with these rules.
+fn rules(rules: &str) -> String {
+    format!("case X\nmode On\nblock-status 403\ncall 2\n{rules}end\n")
+}
+
+/// The lines of a walk, or of results, that speak of an unsupported directive.
+fn told(words: &[&str], text: &str) -> Vec<String> {
+    let output = walk(words, text);
+    assert!(output.status.success() && output.stderr.is_empty());
+    let lines = out(&output).lines();
+    let lines = lines.filter(|line| line.contains("unsupported") || line.starts_with("  ctl "));
+    lines.map(str::to_string).collect()
+}
+
+const NOT_KNOWN: &str = "this directive is not known here; known are ruleEngine, ruleRemoveById, ruleRemoveTargetById, requestBodyAccess and requestBodyProcessor, as in ruleEngine=Off";
+const AUDIT: &str = "auditEngine and auditLogParts steer an audit log, and none is written here: auditEngine=On has no effect, nor has any other value";
+
+/// Every unsupported directive of a matched rule has a line below its rule; the first of the closed units stands at the end.
+#[test]
+fn directives_that_are_passed_over() {
+    let text = rules(
+        "rule 1 link matched\nrule - matched\nctl \"foo\" \"1\"\nctl \"ruleEngine\" \"On\"\nctl \"auditEngine\" \"On\"\ndeny\n",
+    );
+    assert_eq!(told(&["--results"], &text), ["unsupported 1 7"]);
+    let column = " ".repeat(18);
+    let shown = [
+        format!("{column}foo=1  unsupported 7: {NOT_KNOWN}"),
+        format!("{column}auditEngine=On  unsupported 6: {AUDIT}"),
+        "  ctl       first passed over at 1, no id: foo=1, reason 7, unrecognised".to_string(),
+    ];
+    assert_eq!(told(&[], &text), shown);
+    let stops = rules(
+        "rule 10 matched\nctl \"auditEngine\" \"On\"\ndeny\nrule 11 matched\nctl \"foo\" \"1\"\n",
+    );
+    assert_eq!(told(&["--results"], &stops), ["unsupported 0 6"]);
+    let shown = [
+        format!("{column}auditEngine=On  unsupported 6: {AUDIT}"),
+        "  ctl       first passed over at 0, rule 10: auditEngine=On, reason 6, audit".to_string(),
+    ];
+    assert_eq!(told(&[], &stops), shown);
+}
+
+/// In a chain that does not close a directive is told of at its rule, and is not counted. Rules that are not matched have
+/// nothing to tell.
+#[test]
+fn directives_that_do_not_count() {
+    let link = "rule 1 link matched\nctl \"foo\" \"1\"\n";
+    let open = format!(
+        "{}foo=1  unsupported 7, in a chain that does not close: {NOT_KNOWN}",
+        " ".repeat(18)
+    );
+    for last in ["rule 2 missed\n", "rule 2 error\n", ""] {
+        let text = rules(&format!("{link}{last}"));
+        assert_eq!(told(&["--results"], &text), ["unsupported -"]);
+        assert_eq!(told(&[], &text), [open.as_str()]);
+    }
+    let removed =
+        rules(&format!("{link}rule 2 matched\n")).replace("call 2\n", "entry-range 2 2\ncall 2\n");
+    assert_eq!(told(&["--results"], &removed), ["unsupported -"]);
+    assert_eq!(told(&[], &removed), [open.as_str()]);
+    for (entry, rule) in [
+        ("", "rule 1 missed\n"),
+        ("entry-range 1 1\n", "rule 1 matched\n"),
+        ("entry-allowed\n", "rule 1 matched\n"),
+        ("entry-stopped\n", "rule 1 matched\n"),
+        ("entry-mode Off\n", "rule 1 matched\n"),
+        ("", "rule 1 matched\nskip 4294967296\n"),
+    ] {
+        let text = rules(&format!("{rule}ctl \"foo\" \"1\"\n"));
+        let text = text.replace("call 2\n", &format!("{entry}call 2\n"));
+        assert_eq!(told(&["--results"], &text), ["unsupported -"]);
+        assert_eq!(told(&[], &text), [""; 0]);
+    }
+}
+
+/// docs/READING.md has these walks as the program prints them.
+#[test]
+fn the_walks_of_the_page() {
+    let output = program().arg(cases("passed-over.cases")).output();
+    let output = output.expect("the program starts");
+    assert!(output.status.success());
+    let page = std::fs::read_to_string(cases("../docs/READING.md")).unwrap();
+    let walks = format!("```\n{}```\n", out(&output));
+    assert!(page.contains(&walks), "{walks}");
+}
+
+/// Each reason as results have it, and in the walk with its sentence.
+#[test]
+fn reasons_of_directives_alone() {
+    let text = "ctl \"ruleEngine\" \"Of\"\nctl \"ruleRemoveById\" \"1,5-4\"\nctl \"ruleRemoveTargetById\" \"1\"\n\
+        ctl \"requestBodyAccess\" \"yes\"\nctl \"requestBodyProcessor\" \"YAML\"\nctl \"auditEngine\" \"On\"\nctl \"\" \"\"\n";
+    let numbers = (1..=7).map(|number| format!("unsupported {number}"));
+    assert_eq!(told(&["--results"], text), numbers.collect::<Vec<_>>());
+    let shown = told(&[], text);
+    assert_eq!(shown[5], format!("auditEngine=On  unsupported 6: {AUDIT}"));
+    assert_eq!(shown[6], format!("\"\"=\"\"  unsupported 7: {NOT_KNOWN}"));
+    for (number, line) in (1..).zip(&shown) {
+        assert!(
+            line.contains(&format!("  unsupported {number}: ")),
+            "{line}"
+        );
+    }
 }
 
 /// What the program says of a text that it can't read, after the results of what stands before.

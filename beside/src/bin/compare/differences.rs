@@ -59,10 +59,11 @@ fn ran(case: &Case, planted: Option<Reading>) -> Option<Vec<Ran>> {
     let mut sides = Sides::new(case, planted);
     let mut made = Vec::new();
     for call in &case.calls {
-        if sides.is_refused(call, &directives(call)) {
+        let directives = directives(call);
+        if sides.is_refused(call, &directives) {
             continue;
         }
-        let ran = sides.call(call);
+        let ran = sides.call(call, &directives);
         let differs = !ran.differing.is_empty();
         made.push(ran);
         if differs {

@@ -2,8 +2,8 @@
 //! compare --readings
 //! compare --record [N [SEED]]
 //!
-//! Makes random cases and runs N calls through the proved library, the published Rust and a plain model written from 01, and
-//! compares the results field by field. Prints differences as small cases, each cause once, what was reached, and as its last
+//! Makes random cases and runs N calls through the proved library, the published Rust and a plain model written from the
+//! papers, and compares the results field by field. Prints differences as small cases, each cause once, what was reached, and as its last
 //! line `N calls, D differences`; the exit status is 1 where D is not 0, or where a run of 50,000 calls or more missed a line.
 //!
 //! With --planted the model with a wrong reading stands in for the library, which must be found; --readings lists them.

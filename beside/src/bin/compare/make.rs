@@ -66,8 +66,20 @@ pub fn case(random: &mut Random) -> Case {
         ]),
         status: status(random),
         entry: entry(random),
-        calls: (0..calls).map(|_| call(random)).collect(),
+        calls: some_calls(random, calls),
     }
+}
+
+/// So many calls; at times the last is the first once more, so that what it says of a directive was said before.
+fn some_calls(random: &mut Random, count: usize) -> Vec<Call> {
+    let mut calls: Vec<Call> = (0..count).map(|_| call(random)).collect();
+    if count > 1 && random.once_in(5) {
+        calls[count - 1] = Call {
+            phase: calls[count - 1].phase,
+            ..calls[0].clone()
+        };
+    }
+    calls
 }
 
 fn status(random: &mut Random) -> u16 {

@@ -97,6 +97,8 @@ impl Line {
             Stop::Held => self.number(2),
             Stop::New(built) => self.built(built),
         }
+        let unsupported = found.unsupported;
+        self.numbers(unsupported.map_or([0, 0], |it| [it.rule, it.reason.number()]));
     }
 
     fn built(&mut self, built: &Intervention) {

@@ -6,6 +6,7 @@ mod flow;
 mod records;
 mod stops;
 mod table;
+mod unsupported;
 mod walk;
 mod walked;
 
@@ -90,6 +91,7 @@ impl<'a> Seen<'a> {
         controls::mark(self, &mut marks);
         stops::mark(self, &mut marks);
         records::mark(self, &mut marks);
+        unsupported::mark(self, &mut marks);
         marks
     }
 

@@ -120,7 +120,7 @@ fn run(case: &Case) -> Option<(Vec<CallResult>, Marks)> {
         if sides.is_refused(call, &directives) {
             return None;
         }
-        let ran = sides.call(call);
+        let ran = sides.call(call, &directives);
         assert!(ran.differing.is_empty(), "a difference: run compare first");
         let seen = Seen::new(case, call, &directives, &ran.before, &ran.rust);
         all.add(&seen.marks());

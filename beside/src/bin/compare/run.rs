@@ -114,7 +114,7 @@ fn run_case(options: Options, block: u64, case: &Case, left: &mut u64, report: &
             return;
         }
         *left -= 1;
-        let ran = sides.call(call);
+        let ran = sides.call(call, &directives);
         let seen = Seen::new(case, call, &directives, &ran.before, &ran.rust);
         report.table.count(&seen.marks());
         if !ran.differing.is_empty() {

@@ -10,7 +10,7 @@ use tivembo::{Action, Part};
 type Edit = fn(&Case, usize) -> Option<Case>;
 
 /// Each makes less of something, so that no two undo each other.
-const EDITS: [Edit; 19] = [
+const EDITS: [Edit; 20] = [
     as_read,
     without_call,
     without_rules,
@@ -28,6 +28,7 @@ const EDITS: [Edit; 19] = [
     without_text,
     without_length,
     without_blanks,
+    without_name,
     without_disorder,
     without_start,
 ];
@@ -277,6 +278,15 @@ fn without_blanks(case: &Case, at: usize) -> Option<Case> {
     })
 }
 
+/// With a directive of no name, which is unsupported as any unknown one is.
+fn without_name(case: &Case, at: usize) -> Option<Case> {
+    let has_name = |action: &Action| action.kind == kind::CTL && action.text.len > 0;
+    let things = |call: &Call| places(&call.actions, has_name);
+    edited(case, at, things, |call, action| {
+        call.actions[action].text = Part::default();
+    })
+}
+
 /// With two neighbours among a rule's actions in the order of their kinds.
 fn without_disorder(case: &Case, at: usize) -> Option<Case> {
     let things = |call: &Call| {
@@ -351,9 +361,17 @@ mod tests {
     fn actions_become_plainer_and_stand_in_order() {
         let ctl = Act::Ctl(b" ruleEngine", b"On");
         let large = case(&[&[ctl, Act::Drop, Act::Rev(b"x")]]);
-        let small = shrunk_text(large, |case| has(case, kind::CTL, 3));
+        let sets_a_mode = |case: &Case| case.written("s").to_string().contains("ruleEngine");
+        let small = shrunk_text(large, |case| has(case, kind::CTL, 3) && sets_a_mode(case));
         let rule = "call 1; rule - matched;   pass;   msg \"\"";
         assert_eq!(small, format!("{rule};   ctl \"ruleEngine\" \"\"; end"));
+    }
+
+    #[test]
+    fn a_directive_loses_its_name() {
+        let large = case(&[&[Act::Ctl(b"auditEngine", b"On")]]);
+        let small = shrunk_text(large, |case| has(case, kind::CTL, 1));
+        assert_eq!(small, "call 1; rule - matched;   ctl \"\" \"\"; end");
     }
 
     #[test]

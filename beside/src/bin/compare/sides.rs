@@ -31,6 +31,8 @@ pub struct Before {
     pub targets: usize,
     pub allowed: bool,
     pub stopped: bool,
+    /// The unsupported directives that earlier calls told, with their values.
+    pub told: Vec<(String, String)>,
 }
 
 /// One call on all sides.
@@ -56,6 +58,18 @@ pub fn directives(call: &Call) -> Directives {
     call.actions.iter().map(read).collect()
 }
 
+/// The unsupported directive that a call told, with its value: the first one of the rule that it named.
+pub fn told(call: &Call, directives: &Directives, rust: &CallResult) -> Option<(String, String)> {
+    let rule = rust.unsupported?.rule as usize;
+    let mut of_rule = directives[call.places_of(rule)].iter().flatten();
+    of_rule.find_map(|it| match it {
+        CtlDirective::Unsupported {
+            directive, value, ..
+        } => Some((directive.clone(), value.clone())),
+        _ => None,
+    })
+}
+
 impl Sides {
     pub fn new(case: &Case, planted: Option<Reading>) -> Self {
         let entry = &case.entry;
@@ -72,6 +86,7 @@ impl Sides {
                 targets: 0,
                 allowed: entry.allowed,
                 stopped: entry.stopped,
+                told: Vec::new(),
             },
         }
     }
@@ -92,7 +107,7 @@ impl Sides {
     }
 
     /// Makes the call on all sides.
-    pub fn call(&mut self, call: &Call) -> Ran {
+    pub fn call(&mut self, call: &Call, directives: &Directives) -> Ran {
         let rust = self.rust.call(&call.written());
         let model = self.model.call(call);
         let (other, model, differing) = if self.is_planted {
@@ -103,6 +118,8 @@ impl Sides {
             let differing = self.differing(call, &rust, &model, &ours, faults);
             (ours, Some(model), differing)
         };
+        let mut told_before = self.before.told.clone();
+        told_before.extend(told(call, directives, &rust));
         let after = Before {
             calls: self.before.calls + 1,
             phase: call.phase,
@@ -111,6 +128,7 @@ impl Sides {
             targets: self.before.targets + rust.targets.len(),
             allowed: rust.allowed,
             stopped: rust.intervention != Stop::No,
+            told: told_before,
         };
         Ran {
             before: std::mem::replace(&mut self.before, after),

@@ -1,6 +1,7 @@
-//! Both sides' outcome of one directive, and whether they agree.
+//! All sides' outcome of one directive, and whether they agree.
 
-use oracle::{CtlDirective, RuleEngineMode};
+use beside::model::read_directive;
+use oracle::{directive_answer, CtlDirective, RuleEngineMode};
 use tivembo::raw::ReadRecord;
 
 use crate::question::Question;
@@ -123,11 +124,22 @@ pub fn agrees(question: &Question, expected: &Expected, found: &Outcome) -> bool
     wanted == *found
 }
 
+/// Whether the model reads what the Rust does. It refuses nothing.
+pub fn model_agrees(question: &Question, expected: &Expected) -> bool {
+    match expected {
+        Expected::Refused(_) => true,
+        Expected::Directive(directive) => {
+            let read = read_directive(&question.name, &question.value);
+            read == directive_answer(directive)
+        }
+    }
+}
+
 /// The form and the value that a directive of the Rust is as numbers. The Rust keeps a target's two texts: `cut`, where
 /// it was found to be cut, is right if both sides are these texts.
 fn numbers(question: &Question, directive: &CtlDirective, cut: u64) -> (u64, u64) {
     match directive {
-        CtlDirective::Unsupported { .. } => (0, 0),
+        CtlDirective::Unsupported { reason, .. } => (0, oracle::reason(reason).number()),
         CtlDirective::RuleEngine(RuleEngineMode::On) => (1, 0),
         CtlDirective::RuleEngine(RuleEngineMode::DetectionOnly) => (1, 1),
         CtlDirective::RuleEngine(RuleEngineMode::Off) => (1, 2),

@@ -2,8 +2,9 @@
 //! directives --faults
 //!
 //! Feeds N random and damaged directives to the proved reader, through the static library, and to the published Rust's
-//! `CtlDirective::parse`, and compares the two in full: the directive, every range, where a target is cut, and every
-//! entry of the lent lists. Expected results come from the Rust and from 01's rules for refusals 2, 6 and 7 alone.
+//! `CtlDirective::parse`, and compares the two in full: the directive, why it is unsupported, every range, where a target
+//! is cut, and every entry of the lent lists. Expected results come from the Rust and from 01's rules for refusals 2, 6
+//! and 7 alone. The model's directive reader is compared with the Rust too.
 //! The last line is `N directives, D differences`; the exit status is 1 where D is not 0.
 //!
 //! With --planted a wrong reader stands in for ours, which must be found; --faults lists them.
@@ -77,7 +78,8 @@ fn run(options: &Options) -> u64 {
         let expected = compare::expected(&question);
         let answer = compare::expected_answer(&question, &expected);
         let found = (options.read)(&question);
-        if !compare::agrees(&question, &expected, &found) {
+        let ours_agrees = compare::agrees(&question, &expected, &found);
+        if !ours_agrees || !compare::model_agrees(&question, &expected) {
             differences += 1;
             if differences <= SHOWN {
                 report::print_difference(&question, &expected, answer, &found);

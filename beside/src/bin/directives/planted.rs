@@ -1,13 +1,15 @@
 //! Wrong readers, to show that the comparison finds them. Each is made of the proved one: it alters what that answers,
 //! or what that is given.
 
+use tivembo::constants::reason;
+
 use crate::compare::{ours, refused, Outcome};
 use crate::question::Question;
 
 /// A name, and the reader that has the fault.
 pub type Fault = (&'static str, fn(&Question) -> Outcome);
 
-pub const FAULTS: [Fault; 16] = [
+pub const FAULTS: [Fault; 18] = [
     ("range-end-short", range_end_short),
     ("bad-part-dropped", bad_part_dropped),
     ("start-above-end-swapped", swapped),
@@ -24,6 +26,8 @@ pub const FAULTS: [Fault; 16] = [
     ("1c-is-blank", separators_blank),
     ("high-byte-before-length", high_first),
     ("access-turned", access_turned),
+    ("audit-unrecognised", audit_unrecognised),
+    ("reason-with-refusal", reason_with_refusal),
 ];
 
 /// What the proved reader does with another name or value.
@@ -47,8 +51,15 @@ fn with_value(question: &Question, value: Vec<u8>) -> Outcome {
     with_texts(question, question.name.clone(), value)
 }
 
-fn unsupported(question: &Question) -> Outcome {
-    Outcome::before(question)
+/// A list of ids that is taken for none.
+fn no_id_list(question: &Question) -> Outcome {
+    let mut outcome = Outcome::before(question);
+    outcome.record.value = reason::ID_LIST;
+    outcome
+}
+
+fn is_unsupported(outcome: &Outcome) -> bool {
+    outcome.record.answer == 0 && outcome.record.form == 0
 }
 
 fn is_ranges(outcome: &Outcome) -> bool {
@@ -59,7 +70,7 @@ fn is_ranges(outcome: &Outcome) -> bool {
 fn no_ranges_if(question: &Question, test: impl Fn(&[u8]) -> bool) -> Outcome {
     let outcome = ours(question);
     if is_ranges(&outcome) && test(&question.value) {
-        return unsupported(question);
+        return no_id_list(question);
     }
     outcome
 }
@@ -79,7 +90,7 @@ fn range_end_short(question: &Question) -> Outcome {
 fn bad_part_dropped(question: &Question) -> Outcome {
     let outcome = ours(question);
     let parts: Vec<&[u8]> = question.value.split(|&b| b == b',').collect();
-    if outcome.record != refused(0) || parts.len() > 50 {
+    if !is_unsupported(&outcome) || parts.len() > 50 {
         return outcome;
     }
     for left_out in 0..parts.len() {
@@ -96,7 +107,7 @@ fn bad_part_dropped(question: &Question) -> Outcome {
 /// Takes 5-4 for 4-5.
 fn swapped(question: &Question) -> Outcome {
     let outcome = ours(question);
-    if outcome.record != refused(0) {
+    if !is_unsupported(&outcome) {
         return outcome;
     }
     let parts = question.value.split(|&b| b == b',').map(|part| {
@@ -224,6 +235,24 @@ fn access_turned(question: &Question) -> Outcome {
     let mut outcome = ours(question);
     if outcome.record.form == 4 {
         outcome.record.value = 1 - outcome.record.value;
+    }
+    outcome
+}
+
+/// Has no reason of their own for the audit directives.
+fn audit_unrecognised(question: &Question) -> Outcome {
+    let mut outcome = ours(question);
+    if is_unsupported(&outcome) && outcome.record.value == reason::AUDIT {
+        outcome.record.value = reason::UNRECOGNISED;
+    }
+    outcome
+}
+
+/// Tells a reason where nothing was read.
+fn reason_with_refusal(question: &Question) -> Outcome {
+    let mut outcome = ours(question);
+    if outcome.record.answer != 0 {
+        outcome.record.value = reason::UNRECOGNISED;
     }
     outcome
 }

@@ -1,10 +1,11 @@
 //! What a run reached, and differences as lines of the case format.
 
+use beside::model::read_directive;
 use case_format::text::quoted;
 use case_format::Directive;
 use oracle::{directive_answer, CtlDirective};
 
-use crate::compare::{sides, Expected, Outcome};
+use crate::compare::{model_agrees, sides, Expected, Outcome};
 use crate::question::{Damage, Question};
 
 const ANSWERS: [u64; 4] = [0, 2, 6, 7];
@@ -15,6 +16,17 @@ const FORMS: [&str; 6] = [
     "ruleRemoveTargetById",
     "requestBodyAccess",
     "requestBodyProcessor",
+];
+
+/// 02's reasons, in the order of their numbers.
+const REASONS: [&str; 7] = [
+    "mode value",
+    "id list",
+    "target form",
+    "body access value",
+    "processor",
+    "audit",
+    "unrecognised",
 ];
 
 type Test = fn(&Question) -> bool;
@@ -110,6 +122,7 @@ fn digit_runs(question: &Question) -> impl Iterator<Item = &[u8]> {
 pub struct Reached {
     answers: [u64; ANSWERS.len()],
     forms: [u64; FORMS.len()],
+    reasons: [u64; REASONS.len()],
     damages: [u64; Damage::ALL.len()],
     supported: [u64; Damage::ALL.len()],
     features: [u64; FEATURES.len()],
@@ -129,6 +142,9 @@ impl Reached {
             let form = form(directive);
             self.forms[form] += 1;
             self.supported[damage] += u64::from(form != 0);
+            if let CtlDirective::Unsupported { reason, .. } = directive {
+                self.reasons[oracle::reason(reason).number() as usize - 1] += 1;
+            }
         }
         for (count, (_, test)) in self.features.iter_mut().zip(&FEATURES) {
             *count += u64::from(test(question));
@@ -148,6 +164,10 @@ impl Reached {
             "{:>10}  supported in all",
             self.forms[1..].iter().sum::<u64>()
         );
+        println!("reason, where the form is unsupported");
+        for (reason, count) in REASONS.iter().zip(self.reasons) {
+            println!("{count:>10}  {reason}");
+        }
         println!("damage, and how many of these were supported");
         for (i, damage) in Damage::ALL.iter().enumerate() {
             println!("{:>10}  {damage:?}, {}", self.damages[i], self.supported[i]);
@@ -184,6 +204,10 @@ pub fn print_difference(question: &Question, expected: &Expected, answer: u64, f
         Expected::Directive(directive) => format!(" {}", directive_answer(directive)),
     };
     println!("#   rust answer {answer}{said}");
+    if !model_agrees(question, expected) {
+        let read = read_directive(&question.name, &question.value);
+        println!("#   model {read}");
+    }
     let record = found.record;
     println!(
         "#   ours answer {} form {} value {}",

@@ -11,6 +11,7 @@ use lib.Seq.{sets, sets-eq, drop-drop, take-all}
 use Rattle.reading.specs.declared.RuleIdRange.{RuleIdRange}
 use Rattle.reading.specs.Lists.{over}
 use Rattle.reading.specs.Text.{idParts, anyBad, rangesIn}
+use Rattle.reading.specs.declared.UnsupportedReason.{UnsupportedReason}
 use Rattle.reading.specs.Directive.{unsupported, ruleRemoveById, removalValue, rangesOf, startOf, endOf}
 use Rattle.ctl.specs.declared.range_count.RangeCount.{RangeCount}
 use Rattle.ctl.specs.CountRanges.{countIn}
@@ -39,8 +40,8 @@ module _ (v value : List ℕ) (is : v ≡ value) where
   pub none-counted : countIn (removalValue v) ≡ RangeCount.Unsupported → rangesOf (removalValue value) ≡ []
   none-counted e = rw (← is) (go (anyBad (idParts v) || eqb (length (rangesIn (idParts v))) 0) e)
     where
-      go : (b : Bool) → countIn (cond b unsupported (ruleRemoveById (rangesIn (idParts v)))) ≡ RangeCount.Unsupported
-          → rangesOf (cond b unsupported (ruleRemoveById (rangesIn (idParts v)))) ≡ []
+      go : (b : Bool) → countIn (cond b (unsupported UnsupportedReason.IdList) (ruleRemoveById (rangesIn (idParts v)))) ≡ RangeCount.Unsupported
+          → rangesOf (cond b (unsupported UnsupportedReason.IdList) (ruleRemoveById (rangesIn (idParts v)))) ≡ []
       go true d = refl
       go false d = absurd (let z : _≡_ {A = ℕ} 0 1 = cc in omega arith)
 
@@ -48,9 +49,9 @@ module _ (v value : List ℕ) (is : v ≡ value) where
       → (rangesOf (removalValue value) ≡ rangesIn (idParts v)) × (length (rangesOf (removalValue value)) ≡ n)
   some-counted n e = rw (← is) (go (anyBad (idParts v) || eqb (length (rangesIn (idParts v))) 0) e)
     where
-      go : (b : Bool) → countIn (cond b unsupported (ruleRemoveById (rangesIn (idParts v)))) ≡ RangeCount.Ranges n
-          → (rangesOf (cond b unsupported (ruleRemoveById (rangesIn (idParts v)))) ≡ rangesIn (idParts v))
-          × (length (rangesOf (cond b unsupported (ruleRemoveById (rangesIn (idParts v))))) ≡ n)
+      go : (b : Bool) → countIn (cond b (unsupported UnsupportedReason.IdList) (ruleRemoveById (rangesIn (idParts v)))) ≡ RangeCount.Ranges n
+          → (rangesOf (cond b (unsupported UnsupportedReason.IdList) (ruleRemoveById (rangesIn (idParts v)))) ≡ rangesIn (idParts v))
+          × (length (rangesOf (cond b (unsupported UnsupportedReason.IdList) (ruleRemoveById (rangesIn (idParts v))))) ≡ n)
       go true d = absurd (let z : _≡_ {A = ℕ} 0 1 = cc in omega arith)
       go false d = (refl, cc)
 

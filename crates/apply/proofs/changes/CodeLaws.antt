@@ -1,14 +1,14 @@
 -- The codes of a rule, one after the other, and whether one of them is a change. Assumes nothing.
 use Prim.Native.Nat.{ℕ, zero, suc, _+_, _-_, _≤_, _<_, min}
 use mathlib.Core.Path.{_≡_, ap, _∙_}
-use mathlib.Core.Bool.{Bool, true, false, not}
+use mathlib.Core.Bool.{Bool, true, false}
 use mathlib.Core.List.{List, [], _∷_}
 use native.Mathlib.Omega.{arith}
 use native.Mathlib.Numerals.{add-one}
-use lib.Dec.{eqb}
+use lib.Dec.{ltb}
 use lib.ListN.{length, take, drop, getD, length-drop}
 use lib.Seq.{drop-cons}
-use borrow.Author.Tests.{eq-eqb, ne-eqb}
+use borrow.Author.Tests.{lt-ltb, le-ltb}
 use Rattle.reading.specs.declared.Rule.{Rule}
 use Rattle.reading.specs.Lists.{any}
 use Rattle.apply.specs.UnitChanges.{ruleChanges}
@@ -42,7 +42,7 @@ codes-from codes i end h k =
 -- WHETHER A RULE CHANGES THE CONTROLS
 
 abbrev pub isChange : ℕ → Bool
-isChange code = not (eqb code 0)
+isChange code = ltb 7 code
 
 -- before the rule's first code
 pub changes-none : (codes : List ℕ) (r : Rule) (end : ℕ) → end ≡ r .first + min (r .count) (length codes - r .first)
@@ -52,15 +52,15 @@ changes-none codes r end e = ap (any isChange) (codes-are codes r end e)
 
 module _ (codes : List ℕ) (i end : ℕ) (t : Bool) (h : i < end) (k : end ≤ length codes)
     (is : any isChange (slice i end codes) ≡ t) where
-  pub changes-found : (getD codes i 0 ≡ 0 → ⊥) → true ≡ t
+  pub changes-found : 7 < getD codes i 0 → true ≡ t
   changes-found n =
       let e : any isChange (getD codes i 0 ∷ slice (i + 1) end codes) ≡ t = rw (codes-from codes i end h k) at is in
-      rw (ne-eqb (getD codes i 0) 0 n) at e
+      rw (lt-ltb 7 (getD codes i 0) n) at e
 
-  pub changes-more : getD codes i 0 ≡ 0 → any isChange (slice (i + 1) end codes) ≡ t
+  pub changes-more : getD codes i 0 ≤ 7 → any isChange (slice (i + 1) end codes) ≡ t
   changes-more n =
       let e : any isChange (getD codes i 0 ∷ slice (i + 1) end codes) ≡ t = rw (codes-from codes i end h k) at is in
-      rw (eq-eqb (getD codes i 0) 0 n) at e
+      rw (le-ltb 7 (getD codes i 0) n) at e
 
 pub changes-end : (codes : List ℕ) (i end : ℕ) (t : Bool) → end ≤ i → any isChange (slice i end codes) ≡ t → false ≡ t
 changes-end codes i end t h is = let z : end - i ≡ 0 = omega arith in rw z at is

@@ -6,8 +6,8 @@ use mathlib.Core.Bool.{Bool, true, false, not, cond, _||_}
 use mathlib.Core.List.{List, [], _∷_, _++_, map}
 use native.Mathlib.Omega.{arith}
 use native.Mathlib.Numerals.{add-one}
-use borrow.Author.Tests.{le-ltb, lt-leb, ne-eqb, eqb-true}
-use lib.Dec.{eqb}
+use borrow.Author.Tests.{le-ltb, le-leb, lt-leb, ne-eqb, ltb-false}
+use lib.Dec.{eqb, ltb}
 use lib.ListN.{length, take, drop, getD, replicate, length-append}
 use lib.Seq.{drop-drop, getD-drop}
 use Rattle.reading.specs.declared.Action.{Action}
@@ -17,6 +17,7 @@ use Rattle.reading.specs.declared.RuleIdRange.{RuleIdRange}
 use Rattle.reading.specs.declared.RuleEngineMode.{RuleEngineMode}
 use Rattle.reading.specs.declared.BodyAccess.{BodyAccess}
 use Rattle.reading.specs.declared.BodyProcessor.{BodyProcessor}
+use Rattle.reading.specs.declared.UnsupportedReason.{UnsupportedReason}
 use Rattle.reading.specs.Lists.{any, keep, over}
 use Rattle.reading.specs.Text.{ascii, same, partOf, trim, fold, holdsByte, cutBefore, cutAfter}
 use Rattle.reading.specs.Directive.{
@@ -32,6 +33,7 @@ use Rattle.reading.specs.Directive.{
   processorValue,
   removalValue,
   targetValue,
+  otherNamed,
   directiveOf,
   rangesOf,
   withoutLists,
@@ -48,15 +50,28 @@ use Rattle.apply.proofs.changes.CodeLaws.{isChange}
 use Rattle.apply.specs.UnitCodes.{Source, appliedCode, appliedCodes, ruleByCodes, unitByCodes}
 use Rattle.apply.proofs.run.StepLaws.{Grown, grown-same, grown-then}
 
--- A CODE OF 0
+-- A CODE THAT CHANGES NOTHING
 
-zero-idle : (at : Place) (value : List ℕ) (c : Controls) → appliedCode at value 0 c ≡ c
+few-idle : (at : Place) (value : List ℕ) (code : ℕ) (c : Controls) → code ≤ 7 → appliedCode at value code c ≡ c
 unfolding appliedCode
-zero-idle at value c = refl
+few-idle at value code c h =
+    let no : (n : ℕ) → 7 < n → eqb code n ≡ false = λ n k. ne-eqb code n (λ e. omega (arith, e)) in
+    rw (
+      le-leb code 16 (omega arith),
+      no 8 (omega arith),
+      no 9 (omega arith),
+      no 10 (omega arith),
+      no 11 (omega arith),
+      no 12 (omega arith),
+      no 13 (omega arith),
+      no 14 (omega arith),
+      no 15 (omega arith),
+      no 16 (omega arith),
+    )
 
 codes-idle : (s : Source) (i : ℕ) (codes : List ℕ) (c : Controls) → any isChange codes ≡ false → appliedCodes s i codes c ≡ c
 codes-idle s i [] c h = refl
-codes-idle s i (code ∷ codes) c h = go (eqb code 0) refl h (codes-idle s (suc i) codes c)
+codes-idle s i (code ∷ codes) c h = go (ltb 7 code) refl h (codes-idle s (suc i) codes c)
   where
     at : Place
     at = record { phase = s .phase; position = i }
@@ -64,13 +79,11 @@ codes-idle s i (code ∷ codes) c h = go (eqb code 0) refl h (codes-idle s (suc 
     value : List ℕ
     value = partOf (s .text) (getD (s .actions) i noAction .value)
 
-    go : (b : Bool) → eqb code 0 ≡ b → (not b || any isChange codes) ≡ false
+    go : (b : Bool) → ltb 7 code ≡ b → (b || any isChange codes) ≡ false
         → (any isChange codes ≡ false → appliedCodes s (suc i) codes c ≡ c)
         → appliedCodes s (suc i) codes (appliedCode at value code c) ≡ c
-    go true e r others =
-        ap (λ (n : ℕ). appliedCodes s (suc i) codes (appliedCode at value n c)) (eqb-true code 0 e)
-        ∙ (ap (appliedCodes s (suc i) codes) (zero-idle at value c) ∙ others r)
-    go false e r others = absurd (let z : _≡_ {A = ℕ} 0 1 = cc in omega arith)
+    go true e r others = absurd (let z : _≡_ {A = ℕ} 0 1 = cc in omega arith)
+    go false e r others = ap (appliedCodes s (suc i) codes) (few-idle at value code c (ltb-false 7 code e)) ∙ others r
 
 rule-idle : (s : Source) (codes : List ℕ) (r : Rule) (c : Controls) → ruleChanges codes r ≡ false → ruleByCodes s codes r c ≡ c
 unfolding ruleChanges ruleByCodes
@@ -98,7 +111,7 @@ applied-grown c at (ruleRemoveTargetById id target) =
     record { ranges = omega arith; targets = omega (arith, length-append (c .targets) (at ∷ [])) }
 applied-grown c at (requestBodyAccess a) = record { ranges = omega arith; targets = omega arith }
 applied-grown c at (requestBodyProcessor p) = record { ranges = omega arith; targets = omega arith }
-applied-grown c at unsupported = grown-same c
+applied-grown c at (unsupported r) = grown-same c
 
 actions-grown : (q : Given) (ps : List Placed) (c : Controls) → Grown c (actionControls q ps c)
 actions-grown q [] c = grown-same c
@@ -127,7 +140,7 @@ removing (ruleRemoveById rs) = 1
 removing (ruleRemoveTargetById id target) = 0
 removing (requestBodyAccess a) = 0
 removing (requestBodyProcessor p) = 0
-removing unsupported = 0
+removing (unsupported r) = 0
 
 engine-no : (w : List ℕ) → removing (engineValue w) ≡ 0
 engine-no w = go (same w (ascii "on")) (same w (ascii "off")) (same w (ascii "detectiononly"))
@@ -135,7 +148,7 @@ engine-no w = go (same w (ascii "on")) (same w (ascii "off")) (same w (ascii "de
     go : (a b d : Bool)
         → removing
         (cond a (ruleEngine RuleEngineMode.On)
-        (cond b (ruleEngine RuleEngineMode.Off) (cond d (ruleEngine RuleEngineMode.DetectionOnly) unsupported)))
+        (cond b (ruleEngine RuleEngineMode.Off) (cond d (ruleEngine RuleEngineMode.DetectionOnly) (unsupported UnsupportedReason.ModeValue))))
         ≡ 0
     go true b d = refl
     go false true d = refl
@@ -146,7 +159,7 @@ access-no : (w : List ℕ) → removing (accessValue w) ≡ 0
 access-no w = go (same w (ascii "on")) (same w (ascii "off"))
   where
     go : (a b : Bool)
-        → removing (cond a (requestBodyAccess BodyAccess.On) (cond b (requestBodyAccess BodyAccess.Off) unsupported)) ≡ 0
+        → removing (cond a (requestBodyAccess BodyAccess.On) (cond b (requestBodyAccess BodyAccess.Off) (unsupported UnsupportedReason.BodyAccessValue))) ≡ 0
     go true b = refl
     go false true = refl
     go false false = refl
@@ -159,7 +172,7 @@ processor-no w = go (same w (ascii "urlencoded")) (same w (ascii "multipart")) (
         (cond a (requestBodyProcessor BodyProcessor.Urlencoded)
         (cond b (requestBodyProcessor BodyProcessor.Multipart)
         (cond d (requestBodyProcessor BodyProcessor.Json)
-        (cond e (requestBodyProcessor BodyProcessor.Xml) unsupported))))
+        (cond e (requestBodyProcessor BodyProcessor.Xml) (unsupported UnsupportedReason.Processor)))))
         ≡ 0
     go true b d e = refl
     go false true d e = refl
@@ -177,10 +190,19 @@ target-no value =
     target : List ℕ
     target = trim (cutAfter 59 value)
 
-    go : (a b : Bool) → removing (cond a (cond b unsupported (ruleRemoveTargetById id target)) unsupported) ≡ 0
+    go : (a b : Bool) → removing (cond a (cond b (unsupported UnsupportedReason.TargetForm) (ruleRemoveTargetById id target)) (unsupported UnsupportedReason.TargetForm)) ≡ 0
     go true true = refl
     go true false = refl
     go false b = refl
+
+other-no : (name : List ℕ) → removing (otherNamed name) ≡ 0
+other-no name = go (same name (ascii "auditengine")) (same name (ascii "auditlogparts"))
+  where
+    go : (a b : Bool)
+        → removing (cond a (unsupported UnsupportedReason.Audit) (cond b (unsupported UnsupportedReason.Audit) (unsupported UnsupportedReason.Unrecognised))) ≡ 0
+    go true b = refl
+    go false true = refl
+    go false false = refl
 
 removal-is : (name value : List ℕ) (rs : List RuleIdRange) → directiveOf name value ≡ ruleRemoveById rs
     → rangesOf (removalValue (trim value)) ≡ rs
@@ -202,7 +224,7 @@ removal-is name value rs e =
     go : (b1 b2 b3 b4 b5 : Bool)
         → cond b1 (engineValue (fold v))
         (cond b2 (removalValue v)
-        (cond b3 (targetValue v) (cond b4 (accessValue (fold v)) (cond b5 (processorValue (fold v)) unsupported))))
+        (cond b3 (targetValue v) (cond b4 (accessValue (fold v)) (cond b5 (processorValue (fold v)) (otherNamed w)))))
         ≡ ruleRemoveById rs
         → rangesOf (removalValue v) ≡ rs
     go true b2 b3 b4 b5 h = other (engineValue (fold v)) (engine-no (fold v)) h
@@ -210,7 +232,7 @@ removal-is name value rs e =
     go false false true b4 b5 h = other (targetValue v) (target-no v) h
     go false false false true b5 h = other (accessValue (fold v)) (access-no (fold v)) h
     go false false false false true h = other (processorValue (fold v)) (processor-no (fold v)) h
-    go false false false false false h = other unsupported refl h
+    go false false false false false h = other (otherNamed w) (other-no w) h
 
 -- ONE ACTION, WHERE WHAT IT LEAVES IS WITHIN THE LIMITS
 
@@ -236,10 +258,10 @@ target-fits c at h k =
       lt-leb 64 (length (c .targets)) (omega arith),
     )
 
-coded-ranges : (at : Place) (value : List ℕ) (code : ℕ) (c : Controls) → 10 < code
+coded-ranges : (at : Place) (value : List ℕ) (code : ℕ) (c : Controls) → 17 < code
     → appliedCode at value code c ≡ withAllRanges c (rangesOf (removalValue (trim value)))
 unfolding appliedCode
-coded-ranges at value code c h = rw (lt-leb code 9 (omega arith), ne-eqb code 10 (λ e. omega arith))
+coded-ranges at value code c h = rw (lt-leb code 16 (omega arith), ne-eqb code 17 (λ e. omega arith))
 
 directive-fits : (at : Place) (name value : List ℕ) (d : Directive) (c : Controls) → directiveOf name value ≡ d
     → length (applied c at d .ranges) ≤ 256 → length (applied c at d .targets) ≤ 64
@@ -249,7 +271,7 @@ directive-fits at name value (ruleEngine RuleEngineMode.On) c e h k = refl
 directive-fits at name value (ruleEngine RuleEngineMode.DetectionOnly) c e h k = refl
 directive-fits at name value (ruleEngine RuleEngineMode.Off) c e h k = refl
 directive-fits at name value (ruleRemoveById rs) c e h k =
-    coded-ranges at value (11 + min (length rs) 257) c (omega arith)
+    coded-ranges at value (18 + min (length rs) 257) c (omega arith)
     ∙ (ap (withAllRanges c) (removal-is name value rs e) ∙ all-fit c rs h k)
 directive-fits at name value (ruleRemoveTargetById id target) c e h k = target-fits c at h k
 directive-fits at name value (requestBodyAccess BodyAccess.On) c e h k = refl
@@ -258,11 +280,17 @@ directive-fits at name value (requestBodyProcessor BodyProcessor.Urlencoded) c e
 directive-fits at name value (requestBodyProcessor BodyProcessor.Multipart) c e h k = refl
 directive-fits at name value (requestBodyProcessor BodyProcessor.Json) c e h k = refl
 directive-fits at name value (requestBodyProcessor BodyProcessor.Xml) c e h k = refl
-directive-fits at name value unsupported c e h k = refl
+directive-fits at name value (unsupported UnsupportedReason.ModeValue) c e h k = refl
+directive-fits at name value (unsupported UnsupportedReason.IdList) c e h k = refl
+directive-fits at name value (unsupported UnsupportedReason.TargetForm) c e h k = refl
+directive-fits at name value (unsupported UnsupportedReason.BodyAccessValue) c e h k = refl
+directive-fits at name value (unsupported UnsupportedReason.Processor) c e h k = refl
+directive-fits at name value (unsupported UnsupportedReason.Audit) c e h k = refl
+directive-fits at name value (unsupported UnsupportedReason.Unrecognised) c e h k = refl
 
 -- LISTS OF CODES WITH ZEROS BEHIND THEM
 
-abbrev zeros : ℕ → List ℕ
+abbrev pub zeros : ℕ → List ℕ
 zeros k = replicate k 0
 
 drop-zeros : (i k : ℕ) → drop i (zeros k) ≡ zeros (k - i)
@@ -275,7 +303,7 @@ take-zeros zero k = refl
 take-zeros (suc n) zero = refl
 take-zeros (suc n) (suc k) = take-zeros n k
 
-drop-padded : (f : Action → ℕ) (l : List Action) (i k : ℕ) → drop i (map f l ++ zeros k) ≡ map f (drop i l) ++ zeros
+pub drop-padded : (f : Action → ℕ) (l : List Action) (i k : ℕ) → drop i (map f l ++ zeros k) ≡ map f (drop i l) ++ zeros
     (k - (i - length l))
 drop-padded f l zero k = let z : k - (zero - length l) ≡ k = omega arith in rw z
 drop-padded f [] (suc i) k = let z : suc i - zero ≡ suc i = omega arith in rw z (drop-zeros (suc i) k)
@@ -328,7 +356,7 @@ module _ (q : Given) where
           → appliedCode (place i) value (cond b (codeOf (withoutLists value (directiveOf name value))) 0) c
           ≡ cond b (applied c (place i) (directiveOf name value)) c
       go true h k = directive-fits (place i) name value (directiveOf name value) c refl h k
-      go false h k = zero-idle (place i) value c
+      go false h k = few-idle (place i) value 0 c (omega arith)
 
   -- the ctl actions from one on: the first, and those after it
   after-first : (i : ℕ) (a : Action) (rest : List Placed) (c : Controls)
@@ -365,7 +393,7 @@ module _ (q : Given) where
       ∙ (codes-fit l (suc i) n k d (tail-is (q .actions) i a l e) r t ∙ sym out))
 
   module _ (codes : List ℕ) (k : ℕ) (are : codes ≡ over (zeros k) (codesOf (q .text) (q .actions))) where
-    padded : codes ≡ codesOf (q .text) (q .actions) ++ zeros (k - length (codesOf (q .text) (q .actions)))
+    pub padded : codes ≡ codesOf (q .text) (q .actions) ++ zeros (k - length (codesOf (q .text) (q .actions)))
     padded = are ∙ ap (λ (l : List ℕ). codesOf (q .text) (q .actions) ++ l)
         (drop-zeros (length (codesOf (q .text) (q .actions))) k)
 

@@ -44,11 +44,11 @@ withSettings c s = record
 
 module _ (at : Place) (value : List ℕ) (code : ℕ) (x : Controls) (s : Settings) where
   -- a code that adds nothing
-  pub coded-set : code ≤ 9 → appliedCode at value code (withSettings x s) ≡ withSettings x (settingsAfter code s)
+  pub coded-set : code ≤ 16 → appliedCode at value code (withSettings x s) ≡ withSettings x (settingsAfter code s)
   unfolding appliedCode settingsAfter
   coded-set h =
-      rw (le-leb code 9 h)
-      (go (eqb code 1) (eqb code 2) (eqb code 3) (eqb code 4) (eqb code 5) (eqb code 6) (eqb code 7) (eqb code 8) (eqb code 9))
+      rw (le-leb code 16 h)
+      (go (eqb code 8) (eqb code 9) (eqb code 10) (eqb code 11) (eqb code 12) (eqb code 13) (eqb code 14) (eqb code 15) (eqb code 16))
     where
       go : (b1 b2 b3 b4 b5 b6 b7 b8 b9 : Bool)
           → cond b1 (withMode (withSettings x s) RuleEngineMode.On)
@@ -98,10 +98,10 @@ ranges-grown : (rs : List RuleIdRange) (x : Controls) → Grown x (withAllRanges
 ranges-grown rs x =
     record { ranges = omega (arith, length-append (x .ranges) (keep (eqb (addRangesAnswer x rs) 0) rs)); targets = omega arith }
 
--- a code below 10 leaves both lists
+-- a code below 17 leaves both lists
 setting-grown : (code : ℕ) (x : Controls) → Grown x (settingByCode code x)
 setting-grown code x =
-    go (eqb code 1) (eqb code 2) (eqb code 3) (eqb code 4) (eqb code 5) (eqb code 6) (eqb code 7) (eqb code 8) (eqb code 9)
+    go (eqb code 8) (eqb code 9) (eqb code 10) (eqb code 11) (eqb code 12) (eqb code 13) (eqb code 14) (eqb code 15) (eqb code 16)
   where
     go : (b1 b2 b3 b4 b5 b6 b7 b8 b9 : Bool)
         → Grown x
@@ -127,7 +127,7 @@ setting-grown code x =
 
 pub coded-grown : (at : Place) (value : List ℕ) (code : ℕ) (x : Controls) → Grown x (appliedCode at value code x)
 unfolding appliedCode
-coded-grown at value code x = go (leb code 9) (eqb code 10)
+coded-grown at value code x = go (leb code 16) (eqb code 17)
   where
     go : (b d : Bool) → Grown x (cond b (settingByCode code x)
         (cond d (withTarget x at) (withAllRanges x (rangesOf (removalValue (trim value))))))
@@ -145,7 +145,7 @@ module _ (h : ControlCounts) (starts ends phases positions : List ℕ) (at : Pla
   abbrev c : held.Controls
   c = structOf h starts ends phases positions
 
-  pub turned-set : (s : Settings) → code ≤ 9 → s ≡ settingsAfter code (h .settings)
+  pub turned-set : (s : Settings) → code ≤ 16 → s ≡ settingsAfter code (h .settings)
       → Turned h starts ends phases positions (record { settings = s; ranges = h .ranges; targets = h .targets }) starts ends
       phases positions (appliedCode at value code (controlsOf c))
   unfolding controlsOf
@@ -159,14 +159,14 @@ module _ (h : ControlCounts) (starts ends phases positions : List ℕ) (at : Pla
           ∙ (sym (coded-set at value code (controlsOf c) (h .settings) l) ∙ ap (appliedCode at value code)
           (sym (settings-same c)))
 
-  pub turned-target : (r : ControlCounts) (phases′ positions′ : List ℕ) → code ≡ 10 → TargetAdded h at phases positions r phases′
+  pub turned-target : (r : ControlCounts) (phases′ positions′ : List ℕ) → code ≡ 17 → TargetAdded h at phases positions r phases′
       positions′
       → Turned h starts ends phases positions r starts ends phases′ positions′ (appliedCode at value code (controlsOf c))
   unfolding appliedCode
-  turned-target r phases′ positions′ e a = rw (lt-leb code 9 (omega arith), eq-eqb code 10 e) (a starts ends)
+  turned-target r phases′ positions′ e a = rw (lt-leb code 16 (omega arith), eq-eqb code 17 e) (a starts ends)
 
-  pub turned-ranges : (v : List ℕ) (r : ControlCounts) (starts′ ends′ : List ℕ) → 9 < code → (code ≡ 10 → ⊥) → v ≡ value
+  pub turned-ranges : (v : List ℕ) (r : ControlCounts) (starts′ ends′ : List ℕ) → 16 < code → (code ≡ 17 → ⊥) → v ≡ value
       → RangesAdded h v starts ends r starts′ ends′
       → Turned h starts ends phases positions r starts′ ends′ phases positions (appliedCode at value code (controlsOf c))
   unfolding appliedCode
-  turned-ranges v r starts′ ends′ l n e a = rw (lt-leb code 9 l, ne-eqb code 10 n, ← e) (a phases positions)
+  turned-ranges v r starts′ ends′ l n e a = rw (lt-leb code 16 l, ne-eqb code 17 n, ← e) (a phases positions)

@@ -6,18 +6,18 @@ use Rattle.control.specs.declared.state.Settings.{Settings}
 use Rattle.apply.specs.SettingCodes.{settingsAfter}
 
 -- the settings of a code that sets none
-pub settings-left : (code : ℕ) (s : Settings) → (code ≡ 1 → ⊥) → (code ≡ 2 → ⊥) → (code ≡ 3 → ⊥) → (code ≡ 4 → ⊥) → (code ≡ 5 → ⊥)
-    → (code ≡ 6 → ⊥) → (code ≡ 7 → ⊥) → (code ≡ 8 → ⊥) → (code ≡ 9 → ⊥) → settingsAfter code s ≡ s
+pub settings-left : (code : ℕ) (s : Settings) → (code ≡ 8 → ⊥) → (code ≡ 9 → ⊥) → (code ≡ 10 → ⊥) → (code ≡ 11 → ⊥) → (code ≡ 12 → ⊥)
+    → (code ≡ 13 → ⊥) → (code ≡ 14 → ⊥) → (code ≡ 15 → ⊥) → (code ≡ 16 → ⊥) → settingsAfter code s ≡ s
 unfolding settingsAfter
 settings-left code s a b c d e f g h i =
     rw (
-      ne-eqb code 1 a,
-      ne-eqb code 2 b,
-      ne-eqb code 3 c,
-      ne-eqb code 4 d,
-      ne-eqb code 5 e,
-      ne-eqb code 6 f,
-      ne-eqb code 7 g,
-      ne-eqb code 8 h,
-      ne-eqb code 9 i,
+      ne-eqb code 8 a,
+      ne-eqb code 9 b,
+      ne-eqb code 10 c,
+      ne-eqb code 11 d,
+      ne-eqb code 12 e,
+      ne-eqb code 13 f,
+      ne-eqb code 14 g,
+      ne-eqb code 15 h,
+      ne-eqb code 16 i,
     )

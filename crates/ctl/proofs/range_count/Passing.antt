@@ -10,6 +10,7 @@ use lib.ListN.{length, drop, getD, length-append, drop-of-length-le}
 use lib.Seq.{drop-cons}
 use Rattle.reading.specs.declared.IdPart.{IdPart}
 use Rattle.reading.specs.Text.{isDigit, trimStart, trimEnd, trim, onFirst, splitOn, idPart, isBad, rangeIn, idParts, anyBad, rangesIn}
+use Rattle.reading.specs.declared.UnsupportedReason.{UnsupportedReason}
 use Rattle.reading.specs.Directive.{removalValue, unsupported, ruleRemoveById}
 use Rattle.ctl.specs.declared.range_count.PartState.{PartState}
 use Rattle.ctl.specs.declared.range_count.Step.{Step}
@@ -50,7 +51,7 @@ count-start value =
     (let z : length rs ≡ 0 + length rs = omega arith in z)
   where
     go : (bad none : Bool)
-        → countIn (cond (bad || none) unsupported (ruleRemoveById (rangesIn (idParts value))))
+        → countIn (cond (bad || none) (unsupported UnsupportedReason.IdList) (ruleRemoveById (rangesIn (idParts value))))
         ≡ cond bad RangeCount.Unsupported (cond none RangeCount.Unsupported (RangeCount.Ranges (length (rangesIn (idParts value)))))
     go true none = refl
     go false true = refl

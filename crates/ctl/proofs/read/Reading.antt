@@ -11,11 +11,12 @@ use lib.ListN.{length, take}
 use lib.Seq.{take-all}
 use Rattle.reading.specs.declared.RuleIdRange.{RuleIdRange}
 use Rattle.reading.specs.declared.CtlDirective.{CtlDirective}
+use Rattle.reading.specs.declared.OptionDirective.{OptionDirective}
 use Rattle.reading.specs.Lists.{any, over}
 use Rattle.reading.specs.Text.{same, ascii, trim, fold, holdsByte, cutBefore, cutAfter, idParts, anyBad, rangesIn}
 use Rattle.reading.specs.Directive.{Directive, ruleEngine, ruleRemoveById, ruleRemoveTargetById, requestBodyAccess}
 use Rattle.reading.specs.Directive.{requestBodyProcessor, unsupported, engineValue, accessValue, processorValue, removalValue}
-use Rattle.reading.specs.Directive.{targetValue, directiveNamed, directiveOf, rangesOf, isHigh, readerAnswer, withoutLists, startOf}
+use Rattle.reading.specs.Directive.{targetValue, otherNamed, directiveNamed, directiveOf, rangesOf, isHigh, readerAnswer, withoutLists, startOf}
 use Rattle.reading.specs.Directive.{endOf, ReaderOutcome, readerOutcome}
 use Rattle.ctl.specs.WriteRanges.{allFitting, Written}
 use Rattle.ctl.specs.ReadDirective.{rangesCounted}
@@ -27,7 +28,7 @@ counted lent (ruleRemoveById rs) = refl
 counted lent (ruleRemoveTargetById id target) = refl
 counted lent (requestBodyAccess a) = refl
 counted lent (requestBodyProcessor p) = refl
-counted lent unsupported = refl
+counted lent (unsupported r) = refl
 
 -- a directive has no ranges, or those of its value
 abbrev Known : List ℕ → Directive → Type 0
@@ -61,13 +62,16 @@ module _ (v : List ℕ) where
   removal-known : Known v (removalValue v)
   removal-known = either (anyBad (idParts v) || eqb (length (rangesIn (idParts v))) 0) _ _ (inl refl) (inr refl)
 
+  other-known : (name : List ℕ) → Known v (otherNamed name)
+  other-known name = either (same name (ascii "auditengine")) _ _ (inl refl) (either (same name (ascii "auditlogparts")) _ _ (inl refl) (inl refl))
+
   known : (name : List ℕ) → Known v (directiveNamed name v)
   known name =
       either (same name (ascii "ruleengine")) _ _ (engine-known (fold v))
       (either (same name (ascii "ruleremovebyid")) _ _ removal-known
       (either (same name (ascii "ruleremovetargetbyid")) _ _ target-known
       (either (same name (ascii "requestbodyaccess")) _ _ (access-known (fold v))
-      (either (same name (ascii "requestbodyprocessor")) _ _ (processor-known (fold v)) (inl refl)))))
+      (either (same name (ascii "requestbodyprocessor")) _ _ (processor-known (fold v)) (other-known name)))))
 
 ranges-are : (name value : List ℕ) → (length (rangesOf (directiveOf name value)) ≡ 0 → ⊥)
     → rangesOf (directiveOf name value) ≡ rangesIn (idParts (trim value))
@@ -132,7 +136,7 @@ module _ (name value starts ends : List ℕ) where
   room = min (length starts) (length ends)
 
   pub refusal-answer : (n : ℕ) → readerAnswer name value room ≡ n → eqb n 0 ≡ false
-      → _≡_ {A = ReaderOutcome} (record { answer = n; directive = CtlDirective.Unsupported; starts = starts; ends = ends })
+      → _≡_ {A = ReaderOutcome} (record { answer = n; directive = OptionDirective.None; starts = starts; ends = ends })
       (readerOutcome name value starts ends)
   unfolding readerOutcome
   refusal-answer n e z = rw (e, z)
@@ -141,10 +145,10 @@ module _ (name value starts ends : List ℕ) where
       → d ≡ withoutLists value (directiveOf name value)
       → starts′ ≡ over starts (map startOf (rangesOf (directiveOf name value)))
       → ends′ ≡ over ends (map endOf (rangesOf (directiveOf name value)))
-      → _≡_ {A = ReaderOutcome} (record { answer = 0; directive = d; starts = starts′; ends = ends′ })
+      → _≡_ {A = ReaderOutcome} (record { answer = 0; directive = OptionDirective.Some d; starts = starts′; ends = ends′ })
       (readerOutcome name value starts ends)
   unfolding readerOutcome
-  accepted d starts′ ends′ e p q r = rw e (λ i. record { answer = 0; directive = p i; starts = q i; ends = r i })
+  accepted d starts′ ends′ e p q r = rw e (λ i. record { answer = 0; directive = OptionDirective.Some (p i); starts = q i; ends = r i })
 
   -- the lists with the ranges written
   module _ (v starts′ ends′ : List ℕ) (ve : v ≡ trim value)

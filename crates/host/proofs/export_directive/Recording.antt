@@ -1,7 +1,7 @@
 -- What is handed over records an outcome where it records what was found, and this is that outcome.
 use mathlib.Core.Path.{_≡_, refl, subst}
 use Rattle.reading.specs.Directive.{ReaderOutcome}
-use Rattle.reading.specs.Numbers.{directiveNumber, directiveValue}
+use Rattle.reading.specs.Numbers.{readNumber, readValue}
 use Rattle.host.specs.declared.export_directive.ReadRecord.{ReadRecord}
 use Rattle.host.specs.ReadRecord.{Recorded}
 
@@ -9,8 +9,8 @@ pub recorded :
     (found : ReaderOutcome) {o : ReaderOutcome} (r : ReadRecord) →
     found ≡ o →
     r .answer ≡ found .answer →
-    r .form ≡ directiveNumber (found .directive) →
-    r .value ≡ directiveValue (found .directive) →
+    r .form ≡ readNumber (found .directive) →
+    r .value ≡ readValue (found .directive) →
     Recorded o r (found .starts) (found .ends)
 recorded found r e a f v =
     subst (λ (o : ReaderOutcome). Recorded o r (found .starts) (found .ends)) e

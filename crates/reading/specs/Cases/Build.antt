@@ -9,12 +9,15 @@ use Rattle.reading.specs.declared.RuleEngineMode.{RuleEngineMode}
 use Rattle.reading.specs.declared.ModeSetting.{ModeSetting}
 use Rattle.reading.specs.declared.AccessSetting.{AccessSetting}
 use Rattle.reading.specs.declared.ProcessorSetting.{ProcessorSetting}
+use Rattle.reading.specs.declared.RuleIdRange.{RuleIdRange}
+use Rattle.reading.specs.declared.UnsupportedReason.{UnsupportedReason}
 use Rattle.reading.specs.declared.Part.{Part}
 use Rattle.reading.specs.declared.Rule.{Rule}
 use Rattle.reading.specs.declared.Action.{Action}
 use Rattle.reading.specs.declared.Marker.{Marker}
 use Rattle.reading.specs.declared.DataEntry.{DataEntry}
 use Rattle.reading.specs.declared.JournalEntry.{JournalEntry}
+use Rattle.reading.specs.declared.UnsupportedAt.{UnsupportedAt}
 use Rattle.reading.specs.declared.Report.{Report}
 use Rattle.reading.specs.declared.OptionU64.{OptionU64}
 use Rattle.reading.specs.declared.OptionPlace.{OptionPlace}
@@ -22,10 +25,10 @@ use Rattle.reading.specs.declared.Intervention.{Intervention}
 use Rattle.reading.specs.declared.OptionIntervention.{OptionIntervention}
 use Rattle.reading.specs.Lists.{gather, total}
 use Rattle.reading.specs.Text.{ascii, same}
-use Rattle.reading.specs.Numbers.{modeNumber, modeSettingNumber, accessSettingNumber, processorSettingNumber, presentNumber, numberOrZero}
-use Rattle.reading.specs.Directive.{directiveOf, isSupported}
+use Rattle.reading.specs.Numbers.{modeNumber, modeSettingNumber, accessSettingNumber, processorSettingNumber, presentNumber, numberOrZero, reasonNumber}
+use Rattle.reading.specs.Directive.{directiveOf, reasonsOf}
 use Rattle.reading.specs.Controls.{Controls, noControls, isRemoved}
-use Rattle.reading.specs.Reading.{Reading, rust}
+use Rattle.reading.specs.Reading.{Reading, rust, manual}
 use Rattle.reading.specs.Call.{Call, Lists}
 use Rattle.reading.specs.Units.{interventionIds}
 use Rattle.reading.specs.Replay.{replayedIds, replayedData, replayedControls, replayedAllow, replayedIntervention}
@@ -241,6 +244,19 @@ callIn mode ws ms = callWith rust mode noControls false ws ms
 abbrev pub call : List Written → List Named → Call
 call ws ms = callIn RuleEngineMode.On ws ms
 
+-- ranges held, and the manual's reading
+abbrev pub range : ℕ → ℕ → RuleIdRange
+range from to = record { start = from; end = to }
+
+abbrev pub holding : List RuleIdRange → Controls
+holding rs = record { mode = ModeSetting.Unset; ranges = rs; targets = []; access = AccessSetting.Unset; processor = ProcessorSetting.Unset }
+
+abbrev pub callHolding : List RuleIdRange → List Written → Call
+callHolding rs ws = callWith rust RuleEngineMode.On (holding rs) false ws []
+
+abbrev pub callManual : List Written → List Named → Call
+callManual ws ms = callWith manual RuleEngineMode.On noControls false ws ms
+
 -- A CALL WITH OTHER LISTS
 
 abbrev pub withLent : Lists → Call → Call
@@ -295,10 +311,11 @@ pub data Stop : Type 0 where
   stopped : ℕ → List ℕ → Stop
   stoppedWith : ℕ → List ℕ → OptionU64 → OptionU64 → Bool → Stop
 
+-- a directive alone, and the number of its reason: 0 where it is supported
 pub record Told : Type 0 where
   pub directive : String
   pub value : String
-  pub supported : Bool
+  pub reason : ℕ
 
 -- what is found after a call: the visits, the ids and the data entries added, allowed or not, the intervention's status
 -- and ids
@@ -329,6 +346,7 @@ pub record Row : Type 0 where
   pub gone : List ℕ
   pub kept : List ℕ
   pub told : List Told
+  pub unsupported : UnsupportedAt
 
 -- a row by all that may differ, the settings being those at entry; a row of a call that is answered 0; one that says also what is removed and what is supported; one that adds
 -- targets; one that is answered 10; one that is refused
@@ -347,6 +365,7 @@ rowOf name q answer error-index found ranges targets gone kept told = record {
   gone = gone;
   kept = kept;
   told = told;
+  unsupported = record { index = 0; reason = 0 };
 }
 
 abbrev pub row : String → Call → Found → Row
@@ -381,10 +400,30 @@ settling access processor mode r = record {
   gone = r .gone;
   kept = r .kept;
   told = r .told;
+  unsupported = r .unsupported;
 }
 
 abbrev pub switching : RuleEngineMode → Row → Row
 switching mode r = settling (r .access) (r .processor) (ModeSetting.Set mode) r
+
+-- a row that tells an unsupported directive, by its rule's index and its reason's number
+abbrev pub passingOver : ℕ → ℕ → Row → Row
+passingOver index reason r = record {
+  name = r .name;
+  phase-call = r .phase-call;
+  answer = r .answer;
+  error-index = r .error-index;
+  found = r .found;
+  mode = r .mode;
+  access = r .access;
+  processor = r .processor;
+  ranges = r .ranges;
+  targets = r .targets;
+  gone = r .gone;
+  kept = r .kept;
+  told = r .told;
+  unsupported = record { index = index; reason = reason };
+}
 
 -- WHETHER IT HOLDS
 
@@ -416,12 +455,14 @@ sameData (e ∷ es) (s ∷ ss) =
 abbrev pub seenWith : ℕ → List Seen → ℕ
 seenWith verdict seen = total (λ s. cond (eqb (s .verdict) verdict) 1 0) seen
 
-unfoldable pub sameReport : Report → List Seen → Bool
-sameReport r seen =
+unfoldable pub sameReport : Report → List Seen → UnsupportedAt → Bool
+sameReport r seen unsupported =
     eqb (r .missed) (seenWith 0 seen)
     && eqb (r .matched) (seenWith 1 seen)
     && eqb (r .removed) (seenWith 2 seen)
     && eqb (r .errors) (seenWith 3 seen)
+    && eqb (r .unsupported .index) (unsupported .index)
+    && eqb (r .unsupported .reason) (unsupported .reason)
 
 -- a place in phase 2, or none
 abbrev pub samePlace : OptionPlace → OptionU64 → Bool
@@ -448,9 +489,13 @@ sameStop (OptionIntervention.Some i) none = false
 sameStop (OptionIntervention.Some i) (stopped code ids) = sameIntervention i code ids OptionU64.None OptionU64.None false
 sameStop (OptionIntervention.Some i) (stoppedWith code ids url log dropped) = sameIntervention i code ids url log dropped
 
+abbrev pub toldNumber : List UnsupportedReason → ℕ
+toldNumber [] = 0
+toldNumber (r ∷ rs) = reasonNumber r
+
 abbrev pub allTold : List Told → Bool
 allTold [] = true
-allTold (t ∷ ts) = eqBool (isSupported (directiveOf (ascii (t .directive)) (ascii (t .value)))) (t .supported) && allTold ts
+allTold (t ∷ ts) = eqb (toldNumber (reasonsOf (directiveOf (ascii (t .directive)) (ascii (t .value))))) (t .reason) && allTold ts
 
 -- whether each of some ids is removed, or is not
 abbrev pub allGone : Controls → Bool → List ℕ → Bool
@@ -463,7 +508,7 @@ holdsReplayed r journal =
     same (replayedIds (r .phase-call .given) journal) (r .found .ids)
     && sameData (replayedData (r .phase-call .given) journal) (r .found .data-entries)
     && eqBool (r .phase-call .transaction .allowed || replayedAllow (r .phase-call .given) journal) (r .found .allowed)
-    && sameReport (reportOf journal) (r .found .visits)
+    && sameReport (reportOf (r .phase-call .given) journal) (r .found .visits) (r .unsupported)
     && sameStop (replayedIntervention (r .phase-call .given) (r .phase-call .transaction) journal) (r .found .stop)
     && eqb (length (replayedControls (r .phase-call .given) (r .phase-call .transaction) journal .ranges)) (r .ranges)
     && eqb (length (replayedControls (r .phase-call .given) (r .phase-call .transaction) journal .targets)) (r .targets)
@@ -474,7 +519,7 @@ holdsAfter r o =
     eqb (o .answer) (r .answer)
     && eqb (o .error) (r .error-index)
     && eqb (o .visits) (length (r .found .visits))
-    && sameReport (o .report) (r .found .visits)
+    && sameReport (o .report) (r .found .visits) (r .unsupported)
     && eqb (length (o .lists .journal)) (length (r .phase-call .lists .journal))
     && sameVisits (o .lists .journal) (r .found .visits)
     && eqb (o .transaction .ids) (r .phase-call .transaction .ids + length (r .found .ids))

@@ -30,27 +30,14 @@ use Rattle.reading.specs.Refusals.{refused1, refused2, refused3, refused
 use Rattle.reading.specs.Units.{ruleControls, unitFlow, unitDisruptive, unitIntervention}
 use Rattle.reading.specs.Walk.{verdictAt, afterChain, visitAt, walk, walkOf}
 use Rattle.reading.specs.Replay.{unitsOf, lastClosed}
-use Rattle.reading.specs.Report.{reportOf}
+use Rattle.reading.specs.Report.{reportWith, memberUnsupported}
 use Rattle.reading.specs.Outcome.{visitsOf, outcomeOf}
-use Rattle.reading.specs.Cases.Build.{deny, block, pass, allow, drop, chain, multiMatch, redirect, skipAfter, msg, skip, id, status, ctl, Written, Named, Row, none, stopped, stoppedWith, Told, rowOf, row, removal, settling, switching, targeting, failing, refused, rule, link, noId, noIdLink, withOutcome, missed, inError, marker, callWith, callIn, call, withJournal, withData, withIds, withRoom, nothing, matched, miss, removed, error, entry, noIdEntry, lentData, lentEntry, sameIds, sameVisits, sameData, sameStop, sameReport, holds, allHold}
+use Rattle.reading.specs.Cases.Build.{deny, block, pass, allow, drop, chain, multiMatch, redirect, skipAfter, msg, skip, id, status, ctl, Written, Named, Row, none, stopped, stoppedWith, Told, rowOf, row, removal, settling, switching, targeting, failing, refused, rule, link, noId, noIdLink, withOutcome, missed, inError, marker, range, holding, callWith, callIn, call, callHolding, callManual, withJournal, withData, withIds, withRoom, nothing, matched, miss, removed, error, entry, noIdEntry, lentData, lentEntry, sameIds, sameVisits, sameData, sameStop, sameReport, holds, allHold}
 
 -- WHAT IS HELD AT ENTRY
 
-abbrev range : ℕ → ℕ → RuleIdRange
-range from to = record { start = from; end = to }
-
-abbrev holding : List RuleIdRange → Controls
-holding rs = record { mode = ModeSetting.Unset; ranges = rs; targets = []; access = AccessSetting.Unset; processor = ProcessorSetting.Unset }
-
 abbrev inMode : RuleEngineMode → Controls
 inMode m = record { mode = ModeSetting.Set m; ranges = []; targets = []; access = AccessSetting.Unset; processor = ProcessorSetting.Unset }
-
--- a call with ranges held, and one in the manual's reading
-abbrev callHolding : List RuleIdRange → List Written → Call
-callHolding rs ws = callWith rust RuleEngineMode.On (holding rs) false ws []
-
-abbrev callManual : List Written → List Named → Call
-callManual ws ms = callWith manual RuleEngineMode.On noControls false ws ms
 
 -- A CALL WITH OTHER RECORDS OR LISTS
 
@@ -124,51 +111,52 @@ repeating n rules others q = withRecords (sharing 0 n ∷ rules) (times n (actio
 abbrev target : Written
 target = noId (ctl "ruleRemoveTargetById" "1;A" ∷ [])
 
-abbrev told : String → String → Bool → Told
-told directive value supported = record { directive = directive; value = value; supported = supported }
+-- 0 stands for a supported directive
+abbrev told : String → String → ℕ → Told
+told directive value reason = record { directive = directive; value = value; reason = reason }
 
-abbrev removes : String → Bool → Told
-removes value supported = told "ruleRemoveById" value supported
+abbrev removes : String → ℕ → Told
+removes value reason = told "ruleRemoveById" value reason
 
 pub directives : List Told
 directives =
     -- D1: six blanks are trimmed at both ends and nowhere else
-    told "\t ruleEngine \r\n" " on\t" true
-    ∷ told "rule Engine" "On" false
-    ∷ told "" "On" false
-    ∷ told "\u{1f}ruleEngine" "On" false
-    ∷ told "RULEENGINE" "dETECTIONoNLY" true
-    ∷ told "ruleEngine" "Detection" false
-    ∷ told "requestBodyAccess" "off" true
-    ∷ told "requestBodyAccess" "DetectionOnly" false
-    ∷ told "requestBodyProcessor" "xml" true
-    ∷ told "requestBodyProcessor" "yaml" false
-    ∷ told "auditEngine" "On" false
-    ∷ told "auditLogParts" "+E" false
+    told "\t ruleEngine \r\n" " on\t" 0
+    ∷ told "rule Engine" "On" 7
+    ∷ told "" "On" 7
+    ∷ told "\u{1f}ruleEngine" "On" 7
+    ∷ told "RULEENGINE" "dETECTIONoNLY" 0
+    ∷ told "ruleEngine" "Detection" 1
+    ∷ told "requestBodyAccess" "off" 0
+    ∷ told "requestBodyAccess" "DetectionOnly" 4
+    ∷ told "requestBodyProcessor" "xml" 0
+    ∷ told "requestBodyProcessor" "yaml" 5
+    ∷ told "auditEngine" "On" 6
+    ∷ told "auditLogParts" "+E" 6
     -- D2: both numbers of a range are trimmed
-    ∷ removes "5 - 7" true
-    ∷ removes "+5-+7" true
-    ∷ removes "5-6-7" false
-    ∷ removes "-5" false
-    ∷ removes "5-" false
-    ∷ removes "+-5" false
-    ∷ removes "+ 5" false
+    ∷ removes "5 - 7" 0
+    ∷ removes "+5-+7" 0
+    ∷ removes "5-6-7" 2
+    ∷ removes "-5" 2
+    ∷ removes "5-" 2
+    ∷ removes "+-5" 2
+    ∷ removes "+ 5" 2
     -- D3: the value is limited, the count of digits is not
-    ∷ removes "000000000000000000001" true
-    ∷ removes "18446744073709551615" true
-    ∷ removes "18446744073709551616" false
-    ∷ removes "184467440737095516150" false
+    ∷ removes "000000000000000000001" 0
+    ∷ removes "18446744073709551615" 0
+    ∷ removes "18446744073709551616" 2
+    ∷ removes "184467440737095516150" 2
     -- D4: no part, and equal ends
-    ∷ removes "" false
-    ∷ removes " , ," false
-    ∷ removes "5-5" true
-    ∷ removes "1,,2," true
+    ∷ removes "" 2
+    ∷ removes " , ," 2
+    ∷ removes "5-5" 0
+    ∷ removes "1,,2," 0
     -- D8: the text before the ";" need not be a number
-    ∷ told "ruleRemoveTargetById" " x ;y" true
-    ∷ told "ruleRemoveTargetById" "1;" false
-    ∷ told "ruleRemoveTargetById" ";ARGS" false
-    ∷ told "ruleRemoveTargetById" "1 ARGS" false
-    ∷ told "ruleRemoveTargetById" "1;A;B" true
+    ∷ told "ruleRemoveTargetById" " x ;y" 0
+    ∷ told "ruleRemoveTargetById" "1;" 3
+    ∷ told "ruleRemoveTargetById" ";ARGS" 3
+    ∷ told "ruleRemoveTargetById" "1 ARGS" 3
+    ∷ told "ruleRemoveTargetById" "1;A;B" 0
     ∷ []
 
 pub points : List Row
@@ -377,5 +365,5 @@ points =
 
 -- every row holds
 pub point-table : allHold points ≡ true
-unfolding points directives allHold holds sameIds sameVisits sameData sameStop sameReport reportOf same trimStart before trimEnd trim fold allDigits valueFrom digits withoutPlus numberOf indexOf onFirst splitOn oneId idsTo idsFrom idPart anyBad rangesIn directiveOf isRemoved beyondLimits actionsOf lastOf lastDisruptive lastFlow metadataOf directiveIn markerPosition ruleAt isLink idAt outcomeAt actionsAt refused1 refused2 refused3 refused4 refused5 refused6 refused7 refused8 refused9 ruleTotal refusalOf ruleControls unitFlow unitDisruptive unitIntervention verdictAt afterChain visitAt walk walkOf visitsOf outcomeOf unitsOf lastClosed
+unfolding points directives allHold holds sameIds sameVisits sameData sameStop sameReport reportWith memberUnsupported same trimStart before trimEnd trim fold allDigits valueFrom digits withoutPlus numberOf indexOf onFirst splitOn oneId idsTo idsFrom idPart anyBad rangesIn directiveOf isRemoved beyondLimits actionsOf lastOf lastDisruptive lastFlow metadataOf directiveIn markerPosition ruleAt isLink idAt outcomeAt actionsAt refused1 refused2 refused3 refused4 refused5 refused6 refused7 refused8 refused9 ruleTotal refusalOf ruleControls unitFlow unitDisruptive unitIntervention verdictAt afterChain visitAt walk walkOf visitsOf outcomeOf unitsOf lastClosed
 point-table = refl

@@ -15,7 +15,7 @@ use Rattle.reading.specs.declared.RuleIdRange.{RuleIdRange}
 use Rattle.reading.specs.declared.Place.{Place}
 use Rattle.reading.specs.declared.OptionU64.{OptionU64}
 use Rattle.reading.specs.declared.Action.{Action}
-use Rattle.reading.specs.Numbers.{modeNumber, accessNumber, directiveNumber, directiveValue, disruptiveKind, disruptiveValue, flowKind, flowValue}
+use Rattle.reading.specs.Numbers.{modeNumber, accessNumber, readNumber, readValue, disruptiveKind, disruptiveValue, flowKind, flowValue}
 use Rattle.reading.specs.Text.{ascii, same, trimStart, before, trimEnd, trim, fold, allDigits, valueFrom, digits, withoutPlus, numberOf, indexOf, onFirst, splitOn, oneId, idsTo, idsFrom, idPart, anyBad, rangesIn}
 use Rattle.reading.specs.Directive.{directiveOf, readerAnswer, ReaderOutcome, readerOutcome}
 use Rattle.reading.specs.Controls.{Controls, isRemoved, beyondLimits, askMode, askRemoved, askTargetCount, askTarget, askAccess, addRangeAnswer, addRangesAnswer, addTargetAnswer, withRange, withAllRanges, withTarget}
@@ -39,8 +39,8 @@ pub record Read : Type 0 where
 unfoldable readHolds : Read → ReaderOutcome → Bool
 readHolds r o =
     eqb (o .answer) (r .answer)
-    && eqb (directiveNumber (o .directive)) (r .form)
-    && eqb (directiveValue (o .directive)) (r .value-of)
+    && eqb (readNumber (o .directive)) (r .form)
+    && eqb (readValue (o .directive)) (r .value-of)
     && same (o .starts) (r .starts-found)
     && same (o .ends) (r .ends-found)
 
@@ -66,14 +66,14 @@ reading name value answer form value-of =
 pub reads : List Read
 reads =
     -- D5: an unsupported directive leaves the list as found, also where good parts come first
-    removing (ascii "1,5-4") 1 0 0 0 (9 ∷ []) (9 ∷ [])
+    removing (ascii "1,5-4") 1 0 0 2 (9 ∷ []) (9 ∷ [])
     -- 7 leaves it as lent, and is only for supported directives
     ∷ removing (ascii "1,2") 1 7 0 0 (9 ∷ []) (9 ∷ [])
-    ∷ removing (ascii "1,5-4") 0 0 0 0 [] []
+    ∷ removing (ascii "1,5-4") 0 0 0 2 [] []
     ∷ removing (ascii "1,5-7") 2 0 2 2 (1 ∷ 5 ∷ []) (1 ∷ 7 ∷ [])
     -- ranges go to the start of the lists, and the rest is as found
     ∷ removing (ascii " 3 - 4 ,") 3 0 2 1 (3 ∷ 9 ∷ 9 ∷ []) (4 ∷ 9 ∷ 9 ∷ [])
-    -- D6: 2 is for one of the texts by itself, and comes first
+    -- D174: beside a refusal there is no reason, also where the directive would have one; D6: 2 is for one of the texts by itself, and comes first
     ∷ reading (replicate 65537 255) [] 2 0 0
     ∷ reading [] (replicate 65537 32) 2 0 0
     -- D7: a byte of 80 or more, in either text
@@ -84,6 +84,15 @@ reads =
     ∷ reading (ascii "ruleEngine") (ascii "Off") 0 1 2
     ∷ reading (ascii "requestBodyAccess") (ascii " OFF ") 0 4 1
     ∷ reading (ascii "requestBodyProcessor") (ascii "JSON") 0 5 2
+    -- D70: the reason goes by the name, whatever the value
+    ∷ reading (ascii "ruleEngine") (ascii "1;ARGS") 0 0 1
+    ∷ reading (ascii "ruleRemoveById") [] 0 0 2
+    ∷ reading (ascii "ruleRemoveTargetById") (ascii "On") 0 0 3
+    ∷ reading (ascii "requestBodyAccess") (ascii "DetectionOnly") 0 0 4
+    ∷ reading (ascii "requestBodyProcessor") (ascii "On") 0 0 5
+    ∷ reading (ascii " AUDITENGINE ") (ascii "On") 0 0 6
+    ∷ reading (ascii "auditLogParts") [] 0 0 6
+    ∷ reading [] (ascii "On") 0 0 7
     ∷ []
 
 pub allRead : List Read → Bool

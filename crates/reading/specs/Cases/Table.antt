@@ -1,4 +1,5 @@
 -- C1 to C16 of 01 as one table, and one proof that the definitions give what every row states.
+use Prim.Native.Nat.{ℕ}
 use Prim.Native.String.{String}
 use mathlib.Core.Path.{_≡_, refl}
 use mathlib.Core.List.{List, [], _∷_}
@@ -14,12 +15,12 @@ use Rattle.reading.specs.Refusals.{refused1, refused2, refused3, refused
 use Rattle.reading.specs.Units.{ruleControls, unitFlow, unitDisruptive, unitIntervention}
 use Rattle.reading.specs.Walk.{verdictAt, afterChain, visitAt, walk, walkOf}
 use Rattle.reading.specs.Replay.{unitsOf, lastClosed}
-use Rattle.reading.specs.Report.{reportOf}
+use Rattle.reading.specs.Report.{reportWith, memberUnsupported}
 use Rattle.reading.specs.Outcome.{visitsOf, outcomeOf}
-use Rattle.reading.specs.Cases.Build.{deny, pass, allow, skip, skipAfter, ctl, status, Row, none, stopped, Told, row, removal, switching, rule, link, noId, missed, marker, call, callIn, matched, miss, removed, entry, sameIds, sameVisits, sameData, sameStop, sameReport, holds, allHold}
+use Rattle.reading.specs.Cases.Build.{deny, pass, allow, skip, skipAfter, ctl, status, Row, none, stopped, Told, row, removal, switching, passingOver, rule, link, noId, missed, marker, call, callIn, matched, miss, removed, entry, sameIds, sameVisits, sameData, sameStop, sameReport, holds, allHold}
 
-abbrev told : String → Bool → Told
-told value supported = record { directive = "ruleRemoveById"; value = value; supported = supported }
+abbrev told : String → ℕ → Told
+told value reason = record { directive = "ruleRemoveById"; value = value; reason = reason }
 
 pub cases : List Row
 cases =
@@ -53,7 +54,7 @@ cases =
     -- C10 40 removes 42; 41 link deny; 42; 43: ids 40, 41; 403 with ids 43, 41
     ∷ removal "C10" (call (rule 40 (ctl "ruleRemoveById" "42" ∷ []) ∷ link 41 (deny ∷ []) ∷ rule 42 [] ∷ rule 43 [] ∷ []) [])
     (record { visits = matched 0 ∷ matched 1 ∷ removed 2 ∷ matched 3 ∷ []; ids = 40 ∷ 41 ∷ []; data-entries = entry 40 0 ∷ entry 41 1 ∷ entry 43 3 ∷ []; allowed = false; stop = stopped 403 (43 ∷ 41 ∷ []) })
-    1 (42 ∷ []) (41 ∷ 43 ∷ []) (told "42" true ∷ [])
+    1 (42 ∷ []) (41 ∷ 43 ∷ []) (told "42" 0 ∷ [])
     -- C11 50 ruleEngine=DetectionOnly, deny: no intervention
     ∷ switching RuleEngineMode.DetectionOnly
     (row "C11" (call (rule 50 (ctl "ruleEngine" "DetectionOnly" ∷ deny ∷ []) ∷ []) [])
@@ -65,11 +66,12 @@ cases =
     -- C13 "942100-942999": 942999 removed, 943000 not
     ∷ removal "C13" (call (rule 1 (ctl "ruleRemoveById" "942100-942999" ∷ []) ∷ rule 942999 [] ∷ rule 943000 [] ∷ []) [])
     (record { visits = matched 0 ∷ removed 1 ∷ matched 2 ∷ []; ids = 1 ∷ 943000 ∷ []; data-entries = entry 1 0 ∷ entry 943000 2 ∷ []; allowed = false; stop = none })
-    1 (942100 ∷ 942999 ∷ []) (942099 ∷ 943000 ∷ []) (told "942100-942999" true ∷ [])
+    1 (942100 ∷ 942999 ∷ []) (942099 ∷ 943000 ∷ []) (told "942100-942999" 0 ∷ [])
     -- C14 "," and "1,5-4": unsupported, 1 not removed
-    ∷ removal "C14" (call (rule 8 (ctl "ruleRemoveById" "," ∷ ctl "ruleRemoveById" "1,5-4" ∷ []) ∷ rule 1 [] ∷ []) [])
+    ∷ passingOver 0 2
+    (removal "C14" (call (rule 8 (ctl "ruleRemoveById" "," ∷ ctl "ruleRemoveById" "1,5-4" ∷ []) ∷ rule 1 [] ∷ []) [])
     (record { visits = matched 0 ∷ matched 1 ∷ []; ids = 8 ∷ 1 ∷ []; data-entries = entry 8 0 ∷ entry 1 1 ∷ []; allowed = false; stop = none })
-    0 [] (1 ∷ 4 ∷ 5 ∷ []) (told "," false ∷ told "1,5-4" false ∷ [])
+    0 [] (1 ∷ 4 ∷ 5 ∷ []) (told "," 2 ∷ told "1,5-4" 2 ∷ []))
     -- C15 10 deny, status 406: 403
     ∷ row "C15" (call (rule 10 (deny ∷ status 406 ∷ []) ∷ []) [])
     (record { visits = matched 0 ∷ []; ids = 10 ∷ []; data-entries = entry 10 0 ∷ []; allowed = false; stop = stopped 403 (10 ∷ []) })
@@ -80,5 +82,5 @@ cases =
 
 -- every row holds
 pub table : allHold cases ≡ true
-unfolding cases allHold holds sameIds sameVisits sameData sameStop sameReport reportOf same trimStart before trimEnd trim fold allDigits valueFrom digits withoutPlus numberOf indexOf onFirst splitOn oneId idsTo idsFrom idPart anyBad rangesIn directiveOf isRemoved beyondLimits actionsOf lastOf lastDisruptive lastFlow metadataOf directiveIn markerPosition ruleAt isLink idAt outcomeAt actionsAt refused1 refused2 refused3 refused4 refused5 refused6 refused7 refused8 refused9 ruleTotal refusalOf ruleControls unitFlow unitDisruptive unitIntervention verdictAt afterChain visitAt walk walkOf visitsOf outcomeOf unitsOf lastClosed
+unfolding cases allHold holds sameIds sameVisits sameData sameStop sameReport reportWith memberUnsupported same trimStart before trimEnd trim fold allDigits valueFrom digits withoutPlus numberOf indexOf onFirst splitOn oneId idsTo idsFrom idPart anyBad rangesIn directiveOf isRemoved beyondLimits actionsOf lastOf lastDisruptive lastFlow metadataOf directiveIn markerPosition ruleAt isLink idAt outcomeAt actionsAt refused1 refused2 refused3 refused4 refused5 refused6 refused7 refused8 refused9 ruleTotal refusalOf ruleControls unitFlow unitDisruptive unitIntervention verdictAt afterChain visitAt walk walkOf visitsOf outcomeOf unitsOf lastClosed
 table = refl

@@ -13,6 +13,7 @@ use Rattle.reading.specs.declared.Rule.{Rule}
 use Rattle.reading.specs.declared.RuleEngineMode.{RuleEngineMode}
 use Rattle.reading.specs.declared.BodyAccess.{BodyAccess}
 use Rattle.reading.specs.declared.BodyProcessor.{BodyProcessor}
+use Rattle.reading.specs.declared.UnsupportedReason.{UnsupportedReason}
 use Rattle.reading.specs.Lists.{keep, over, total}
 use Rattle.reading.specs.Text.{partOf}
 use Rattle.reading.specs.Limits.{mostRanges, mostTargets}
@@ -83,13 +84,19 @@ module _ (value : List ℕ) where
   ranges-by (requestBodyProcessor BodyProcessor.Multipart) = refl
   ranges-by (requestBodyProcessor BodyProcessor.Json) = refl
   ranges-by (requestBodyProcessor BodyProcessor.Xml) = refl
-  ranges-by unsupported = refl
+  ranges-by (unsupported UnsupportedReason.ModeValue) = refl
+  ranges-by (unsupported UnsupportedReason.IdList) = refl
+  ranges-by (unsupported UnsupportedReason.TargetForm) = refl
+  ranges-by (unsupported UnsupportedReason.BodyAccessValue) = refl
+  ranges-by (unsupported UnsupportedReason.Processor) = refl
+  ranges-by (unsupported UnsupportedReason.Audit) = refl
+  ranges-by (unsupported UnsupportedReason.Unrecognised) = refl
 
   targets-by : (d : Directive) → targetsOfCode (codeOf (withoutLists value d)) ≡ targetCount d
   targets-by (ruleEngine RuleEngineMode.On) = refl
   targets-by (ruleEngine RuleEngineMode.DetectionOnly) = refl
   targets-by (ruleEngine RuleEngineMode.Off) = refl
-  targets-by (ruleRemoveById rs) = let z = ne-eqb (11 + min (length rs) 257) 10 (λ e. omega arith) in rw z
+  targets-by (ruleRemoveById rs) = let z = ne-eqb (18 + min (length rs) 257) 17 (λ e. omega arith) in rw z
   targets-by (ruleRemoveTargetById id target) = refl
   targets-by (requestBodyAccess BodyAccess.On) = refl
   targets-by (requestBodyAccess BodyAccess.Off) = refl
@@ -97,7 +104,13 @@ module _ (value : List ℕ) where
   targets-by (requestBodyProcessor BodyProcessor.Multipart) = refl
   targets-by (requestBodyProcessor BodyProcessor.Json) = refl
   targets-by (requestBodyProcessor BodyProcessor.Xml) = refl
-  targets-by unsupported = refl
+  targets-by (unsupported UnsupportedReason.ModeValue) = refl
+  targets-by (unsupported UnsupportedReason.IdList) = refl
+  targets-by (unsupported UnsupportedReason.TargetForm) = refl
+  targets-by (unsupported UnsupportedReason.BodyAccessValue) = refl
+  targets-by (unsupported UnsupportedReason.Processor) = refl
+  targets-by (unsupported UnsupportedReason.Audit) = refl
+  targets-by (unsupported UnsupportedReason.Unrecognised) = refl
 
 module _ (text : List ℕ) (a : Action) where
   ranges-coded : Alike (rangesOfCode (codeAt text a)) (added rangeCount text a)

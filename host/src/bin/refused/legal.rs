@@ -9,15 +9,31 @@ use crate::given::{Given, Written};
 use crate::random::Random;
 
 /// Directives with their values, one after the other in every text. Each has two ranges or one target at most.
-pub const DIRECTIVES: [(&str, &str); 7] = [
+const SUPPORTED: [(&str, &str); 6] = [
     ("ruleRemoveById", "1-5, 7"),
     ("RULEREMOVEBYID ", "942100"),
     ("ruleRemoveTargetById", "1;ARGS"),
     ("ruleEngine", "DetectionOnly"),
     ("requestBodyAccess", "Off"),
     ("requestBodyProcessor", "XML"),
-    ("auditEngine", "On"),
 ];
+
+/// The same, one for each of 02's reasons, in the order of their numbers.
+const UNSUPPORTED: [(&str, &str); 7] = [
+    ("ruleEngine", "Of"),
+    ("ruleRemoveById", "1,5-4"),
+    ("ruleRemoveTargetById", "1;"),
+    ("requestBodyAccess", "yes"),
+    ("requestBodyProcessor", "YAML"),
+    ("auditEngine", "On"),
+    ("foo", "1"),
+];
+
+/// Where the directives stand in a text.
+struct Directives {
+    supported: Vec<[Part; 2]>,
+    unsupported: Vec<[Part; 2]>,
+}
 
 /// A rule has three actions at most, and there are sixteen rules at most where actions may be directives: so at most 96
 /// ranges and 48 targets come from rules, and this many may be held.
@@ -32,7 +48,7 @@ pub fn legal(random: &mut Random) -> Given {
         false => 1 + random.below(FEW_RULES),
     };
     let (text, directives) = text(random);
-    let actions: Vec<Action> = (0..random.below(40))
+    let mut actions: Vec<Action> = (0..random.below(40))
         .map(|_| action(random, text.len(), &directives, rules <= FEW_RULES))
         .collect();
     let transaction = transaction(random);
@@ -43,14 +59,19 @@ pub fn legal(random: &mut Random) -> Given {
     };
     let markers = (0..4).map(&mut marker).collect();
     let mut rule = |_| rule(random, actions.len());
-    let rules: Vec<Rule> = (0..rules).map(&mut rule).collect();
+    let mut rules: Vec<Rule> = (0..rules).map(&mut rule).collect();
+    let mut outcomes: Vec<u8> = rules.iter().map(|_| random.number(4) as u8).collect();
+    if random.one_in(2) {
+        actions.push(ctl(random, &directives.unsupported));
+        (rules[0], outcomes[0]) = closing(random, actions.len());
+    }
     Given {
         call: CallSettings {
             phase: 1 + random.number(5),
             mode: random.number(3),
             default_status: random.wild(),
         },
-        outcomes: rules.iter().map(|_| random.number(4) as u8).collect(),
+        outcomes,
         rules,
         actions,
         markers,
@@ -61,7 +82,7 @@ pub fn legal(random: &mut Random) -> Given {
 }
 
 /// A text that begins with some filling and has every directive, and where these stand.
-fn text(random: &mut Random) -> (Vec<u8>, Vec<[Part; 2]>) {
+fn text(random: &mut Random) -> (Vec<u8>, Directives) {
     let mut text: Vec<u8> = (0..random.below(60))
         .map(|_| random.number(128) as u8)
         .collect();
@@ -73,8 +94,17 @@ fn text(random: &mut Random) -> (Vec<u8>, Vec<[Part; 2]>) {
         text.extend(added.bytes());
         part
     };
-    let directives = DIRECTIVES.map(|(name, value)| [put(name), put(value)]);
-    (text, directives.to_vec())
+    let mut put_all = |directives: &[(&str, &str)]| {
+        let directives = directives.iter();
+        directives
+            .map(|(name, value)| [put(name), put(value)])
+            .collect()
+    };
+    let directives = Directives {
+        supported: put_all(&SUPPORTED),
+        unsupported: put_all(&UNSUPPORTED),
+    };
+    (text, directives)
 }
 
 fn part(random: &mut Random, bytes: usize) -> Part {
@@ -85,15 +115,32 @@ fn part(random: &mut Random, bytes: usize) -> Part {
     }
 }
 
-fn action(random: &mut Random, bytes: usize, directives: &[[Part; 2]], ctl: bool) -> Action {
-    if ctl && random.one_in(3) {
-        let [text, value] = random.of(directives);
-        return Action {
-            kind: 19,
-            number: random.wild(),
-            text,
-            value,
-        };
+/// One of these directives.
+fn ctl(random: &mut Random, directives: &[[Part; 2]]) -> Action {
+    let [text, value] = random.of(directives);
+    Action {
+        kind: 19,
+        number: random.wild(),
+        text,
+        value,
+    }
+}
+
+/// A first rule that matches, cannot be removed and is no link, with the last action: where the call is not refused and has
+/// anything to do, its unit closes.
+fn closing(random: &mut Random, actions: usize) -> (Rule, u8) {
+    let rule = Rule {
+        first: actions as u64 - 1,
+        count: 1,
+        ..Rule::default()
+    };
+    (rule, random.of(&[1, 2]))
+}
+
+fn action(random: &mut Random, bytes: usize, directives: &Directives, with_ctl: bool) -> Action {
+    if with_ctl && random.one_in(3) {
+        let of = random.of(&[&directives.supported, &directives.unsupported]);
+        return ctl(random, of);
     }
     // 19 is left out: other parts of the text might be read as more directives than are counted here.
     let kind = random.of(&[

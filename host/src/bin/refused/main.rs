@@ -2,8 +2,10 @@
 //! refused --wrong
 //!
 //! Makes N calls that must be refused: each of 01's nine reasons alone and every pair of them, planted in random calls
-//! to which none applies. The answer must be the smaller number, and every byte of the transaction, the lists and what
-//! stands around the lists must be as lent. Which number is right comes from what was planted, not from any code of ours.
+//! to which none applies. The answer must be the smaller number, with nothing told beside it, and every byte of the
+//! transaction, the lists and what stands around the lists must be as lent. Which number is right comes from what was
+//! planted, not from any code of ours. Half of the random calls have an unsupported directive in a unit that closes where
+//! they are not refused, and how many would tell of one is printed.
 //! Then it makes N calls with records that hold anything: they may be answered as they like, but must return, keep
 //! to their lists, and leave everything as lent where they are refused. For all of these, what the crate's own check of a
 //! rule set says of the records must be what a call says that has no other fault.
@@ -25,7 +27,7 @@ use given::{Given, PhaseCall};
 use plant::FAULTS;
 use planted::WRONG;
 use random::Random;
-use tivembo::HostAnswer;
+use tivembo::{HostAnswer, UnsupportedAt};
 
 /// How many wrong calls are shown.
 const SHOWN: u64 = 3;
@@ -84,12 +86,15 @@ fn run_refused(options: &Options, random: &mut Random) -> u64 {
     let plans = plans();
     let mut base = legal::legal(random);
     let (mut wrong, mut answers) = (0, [0u64; 11]);
+    let (mut telling, mut tells) = (0, false);
     for (index, plan) in (0..options.count).zip(plans.iter().cycle()) {
         // A round of all plans begins with a new call, which must not be refused.
         if index % plans.len() as u64 == 0 {
             base = legal::legal(random);
-            let answer = base.clone().call(options.call).answer;
-            wrong += tell(matches!(answer, 0 | 10), wrong, "no fault", &base, answer);
+            let found = base.clone().call(options.call);
+            let is_right = matches!(found.answer, 0 | 10);
+            wrong += tell(is_right, wrong, "no fault", &base, &found);
+            tells = found.report.unsupported != UnsupportedAt::default();
         }
         let mut given = base.clone();
         plan.iter()
@@ -97,20 +102,26 @@ fn run_refused(options: &Options, random: &mut Random) -> u64 {
         let expected = plan.last().map_or(0, |&fault| fault as u64 + 1);
         let before = given.clone();
         let found = given.call(options.call);
-        let right = HostAnswer {
-            answer: expected,
-            ..HostAnswer::default()
-        };
-        let is_right = found == right && given == before && before.is_checked();
+        let is_right = found == refused_with(expected) && given == before && before.is_checked();
         let what = format!("faults {plan:?}, counted from 0, expected {expected}");
-        wrong += tell(is_right, wrong, &what, &before, found.answer);
+        wrong += tell(is_right, wrong, &what, &before, &found);
         answers[expected as usize] += 1;
+        telling += u64::from(tells);
     }
     println!(
         "calls with each expected answer from 1 on: {:?}",
         &answers[1..10]
     );
+    println!("calls that would tell of an unsupported directive: {telling}");
     wrong
+}
+
+/// A refusal and nothing beside it: no visit, no error, and nothing told.
+fn refused_with(answer: u64) -> HostAnswer {
+    HostAnswer {
+        answer,
+        ..HostAnswer::default()
+    }
 }
 
 /// Gives the number of wrong calls.
@@ -121,7 +132,7 @@ fn run_wild(options: &Options, random: &mut Random) -> u64 {
         let before = given.clone();
         let found = given.call(options.call);
         let is_right = is_possible(&found, &given, &before) && before.is_checked();
-        wrong += tell(is_right, wrong, "anything", &before, found.answer);
+        wrong += tell(is_right, wrong, "anything", &before, &found);
         answers[found.answer.min(10) as usize] += 1;
     }
     println!("wild calls with each answer from 0 on: {answers:?}");
@@ -131,18 +142,27 @@ fn run_wild(options: &Options, random: &mut Random) -> u64 {
 /// Whether a call on anything is answered as some call may be.
 fn is_possible(found: &HostAnswer, given: &Given, before: &Given) -> bool {
     let rules = given.rules.len() as u64;
+    let walked = found.visits <= rules && tells_possibly(found, rules);
     match found.answer {
-        0 => found.visits <= rules && found.error == 0 && given.keeps_guards_of(before),
-        1..=9 => (found.visits, found.error) == (0, 0) && given == before,
-        10 => found.visits <= rules && found.error < rules && given.keeps_guards_of(before),
+        0 => walked && found.error == 0 && given.keeps_guards_of(before),
+        1..=9 => *found == refused_with(found.answer) && given == before,
+        10 => walked && found.error < rules && given.keeps_guards_of(before),
         _ => false,
     }
 }
 
+/// Whether a call of so many rules may tell of such an unsupported directive: of none where there was no visit, else of a rule
+/// with one of the reasons.
+fn tells_possibly(found: &HostAnswer, rules: u64) -> bool {
+    let told = found.report.unsupported;
+    let is_none = told == UnsupportedAt::default();
+    is_none || (found.visits > 0 && told.index < rules && (1..=7).contains(&told.reason))
+}
+
 /// Counts a wrong call, and shows the first of them.
-fn tell(is_right: bool, wrong: u64, what: &str, before: &Given, answer: u64) -> u64 {
+fn tell(is_right: bool, wrong: u64, what: &str, before: &Given, found: &HostAnswer) -> u64 {
     if !is_right && wrong < SHOWN {
-        println!("wrong: {what}; answered {answer}");
+        println!("wrong: {what}; {found:?}");
         println!("  phase {}, mode {}", before.call.phase, before.call.mode);
         println!("  rules {:?}", &before.rules[..before.rules.len().min(8)]);
     }

@@ -1,17 +1,18 @@
 //! Wrong phase calls, each of which the program must find.
 
 use tivembo::raw::{run_phase, Lent, Lists};
-use tivembo::{HostAnswer, HostTransaction};
+use tivembo::{HostAnswer, HostTransaction, Report};
 
 use crate::given::PhaseCall;
 
-pub const WRONG: [(&str, PhaseCall); 6] = [
+pub const WRONG: [(&str, PhaseCall); 7] = [
     ("eight-and-nine", eight_and_nine),
     ("room-before-bytes", room_before_bytes),
     ("counts-a-visit", counts_a_visit),
     ("writes-an-id", writes_an_id),
     ("writes-the-journal", writes_the_journal),
     ("forgets-a-range", forgets_a_range),
+    ("pair-before-room", pair_before_room),
 ];
 
 fn is_refusal(answer: HostAnswer) -> bool {
@@ -78,4 +79,24 @@ fn forgets_a_range(t: &mut HostTransaction, lent: &Lent<'_>, lists: &mut Lists<'
         t.controls.ends[255] = !t.controls.ends[255];
     }
     found
+}
+
+/// Looks for an unsupported directive before it looks for room: with 7 it tells what the phase would have told.
+fn pair_before_room(t: &mut HostTransaction, lent: &Lent<'_>, lists: &mut Lists<'_>) -> HostAnswer {
+    let found = run_phase(t, lent, lists);
+    if found.answer != 7 {
+        return found;
+    }
+    let (mut copy, rules) = (*t, lent.rules.len() / 5);
+    let mut roomy = Lists {
+        ids: &mut vec![0; t.ids as usize + rules],
+        entries: &mut vec![0; 4 * (t.entries as usize + rules)],
+        journal: &mut vec![0; 2 * rules],
+    };
+    let unsupported = run_phase(&mut copy, lent, &mut roomy).report.unsupported;
+    let report = Report {
+        unsupported,
+        ..found.report
+    };
+    HostAnswer { report, ..found }
 }

@@ -1,14 +1,31 @@
-//! Random ctl actions: directives that meet the ids of a case, and those of the directive runs.
+//! Random ctl actions: directives that meet the ids of a case, unsupported ones, and those of the directive runs.
 
 use beside::random::Random;
 use beside::values;
 
 use super::id;
 
+/// Unsupported ones for each reason. They are few, so that the same one is often met again.
+const UNSUPPORTED: [(&str, &str); 9] = [
+    ("ruleEngine", "Yes"),
+    ("ruleRemoveById", "5-4"),
+    ("ruleRemoveTargetById", "942100"),
+    ("requestBodyAccess", "DetectionOnly"),
+    ("requestBodyProcessor", "YAML"),
+    ("auditEngine", "On"),
+    ("auditLogParts", "+E"),
+    ("ruleRemoveByTag", "x"),
+    ("", ""),
+];
+
 /// Directive and value.
 pub fn ctl(random: &mut Random) -> (Vec<u8>, Vec<u8>) {
     if random.once_in(5) {
         return values::directive(random);
+    }
+    if random.once_in(4) {
+        let (name, value) = random.pick(&UNSUPPORTED);
+        return recased(random, name, value.as_bytes().to_vec());
     }
     let (name, value) = match random.below(12) {
         0..=2 => ("ruleEngine", mode(random).to_vec()),
@@ -25,6 +42,11 @@ pub fn ctl(random: &mut Random) -> (Vec<u8>, Vec<u8>) {
                 .to_vec(),
         ),
     };
+    recased(random, name, value)
+}
+
+/// Once in four times in other letters and with blanks around.
+fn recased(random: &mut Random, name: &str, value: Vec<u8>) -> (Vec<u8>, Vec<u8>) {
     if random.once_in(4) {
         let name = values::recased(random, name);
         return (values::around(random, name), values::around(random, value));

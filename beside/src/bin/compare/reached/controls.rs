@@ -68,7 +68,6 @@ fn directives(seen: &Seen, unit: &Unit, marks: &mut Marks) {
     for &member in &unit.members {
         for (action, directive) in of_rule(seen, member) {
             if let CtlDirective::Unsupported { .. } = directive {
-                marks.set(F::Unsupported);
                 continue;
             }
             let (name, value) = (seen.call.text(action.text), seen.call.text(action.value));

@@ -16,7 +16,7 @@ pub fn mark(seen: &Seen, marks: &mut Marks) {
     marks.set_if(walked.units.len() > 2, F::UnitsMany);
     missed(seen, marks);
     removed(seen, marks);
-    marks.set_if(walked.left_open > 0, F::LeftOpen);
+    marks.set_if(!walked.left_open.is_empty(), F::LeftOpen);
     let count = seen.call.rules.len();
     let last_is_link = !walked.is_idle && seen.call.is_link(count - 1);
     marks.set_if(last_is_link, F::LastIsLink);
@@ -49,7 +49,7 @@ fn removed(seen: &Seen, marks: &mut Marks) {
             (true, true) => F::RemovedLink,
             (false, false) => F::RemovedAlone,
             (false, true) if walked.units.iter().any(around) => F::RemovedInChain,
-            (false, true) if walked.left_open > 0 => F::RemovedInChainOpen,
+            (false, true) if !walked.left_open.is_empty() => F::RemovedInChainOpen,
             (false, true) => continue,
         });
     }

@@ -39,8 +39,8 @@ pub struct Walked {
     pub missed: Vec<(usize, usize)>,
     /// Links that had matched when their chain broke.
     pub lost: Vec<usize>,
-    /// How many members the chain had that was open at the end, and at the rule in error.
-    pub left_open: usize,
+    /// The members of the chain that was open at the end, and how many it had at the rule in error.
+    pub left_open: Vec<usize>,
     pub open_at_error: usize,
 }
 
@@ -102,7 +102,7 @@ impl Walker<'_> {
             return;
         }
         self.pass_removed(next, self.call.rules.len());
-        self.walked.left_open = self.members.len();
+        self.walked.left_open = std::mem::take(&mut self.members);
     }
 
     /// What lies between the next index and the rule that was evaluated next was removed.

@@ -32,8 +32,11 @@ enum-known-directive-4 c = search needs
 processor-code-requires : tie.Need-processor-code-requires
 processor-code-requires c κs = search needs
 
-enum-told-2 : tie.Need-enum-told-2
-enum-told-2 c = search needs
+enum-known-directive-5 : tie.Need-enum-known-directive-5
+enum-known-directive-5 c = search needs
+
+reason-number-requires : tie.Need-reason-number-requires
+reason-number-requires c κs = search needs
 
 returns : tie.Need-returns
 returns c = search needs
@@ -66,7 +69,8 @@ code-of-spec =
     access-code-requires
     enum-known-directive-4
     processor-code-requires
-    enum-told-2
+    enum-known-directive-5
+    reason-number-requires
     returns
     returns-2
     returns-3

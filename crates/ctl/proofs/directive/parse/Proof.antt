@@ -150,17 +150,20 @@ returns-5 c =
     c .request-body-processor .ensures (value t) ∙ ap (withoutLists (value t))
     (sym (law (not-ruleengine e1) (not-ruleremovebyid e2) (not-ruleremovetargetbyid e3) (not-requestbodyaccess e4) yes))
 
+unsupported-named-requires : tie.Need-unsupported-named-requires
+unsupported-named-requires c κs = search needs
+
 returns-6 : tie.Need-returns-6
 returns-6 c =
-    let e5 = c in
+    let e5 = c .before in
     let e4 = e5 .before .before .before in
     let e3 = e4 .before .before .before in
     let e2 = e3 .before .before .before in
     let e1 = e2 .before .before .before in
     let t = trim5 e5 in
     let law = is-other (name t) (value t) _ _ (t .before .trim .ensures) (t .trim2 .ensures) in
-    ap (withoutLists (value t)) (sym (law (not-ruleengine e1) (not-ruleremovebyid e2) (not-ruleremovetargetbyid e3)
-    (not-requestbodyaccess e4) (not-requestbodyprocessor e5)))
+    c .unsupported-named .ensures (value t) ∙ ap (withoutLists (value t))
+    (sym (law (not-ruleengine e1) (not-ruleremovebyid e2) (not-ruleremovetargetbyid e3) (not-requestbodyaccess e4) (not-requestbodyprocessor e5)))
 
 pub parse-spec : {M : Type 1} → statement M
 parse-spec =
@@ -188,4 +191,5 @@ parse-spec =
     folds-to-requires-5
     request-body-processor-requires
     returns-5
+    unsupported-named-requires
     returns-6)

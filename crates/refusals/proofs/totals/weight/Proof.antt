@@ -6,10 +6,10 @@ use Rattle.refusals.proofs.totals.weight.Statement.{statement}
 use Rattle.refusals.proofs.totals.weight.Tie as tie
 
 returns : tie.Need-returns
-returns c = (rw (c .before .if1 .taken, eq-eqb _ 10 (c .if2 .taken)), omega arith)
+returns c = (rw (c .before .if1 .taken, eq-eqb _ 17 (c .if2 .taken)), omega arith)
 
 returns-2 : tie.Need-returns-2
-returns-2 c = (rw (c .before .if1 .taken, ne-eqb _ 10 (c .if2 .left)), omega arith)
+returns-2 c = (rw (c .before .if1 .taken, ne-eqb _ 17 (c .if2 .left)), omega arith)
 
 returns-3 : tie.Need-returns-3
 returns-3 c = (rw (c .before .if1 .left) (omega arith), omega arith)

@@ -5,18 +5,18 @@ use mathlib.Core.List.{List}
 use native.Mathlib.Omega.{arith}
 use denote.Ref.{now}
 use lib.ListN.{length, getD}
-use Rattle.reading.specs.Report.{reportOf}
+use Rattle.reading.specs.Report.{reportWith}
 use Rattle.report.proofs.verdicts.CountLaws.{Counted, counted-none, counted-more, counted-hit, counted-other, counted-all, counted-fits, one-at-most}
 use borrow.Author.Needs.{needs}
 use Rattle.report.proofs.verdicts.count_verdicts.Statement.{statement}
 use Rattle.report.proofs.verdicts.count_verdicts.Tie as tie
 
 abbrev Inv-loop : tie.InvT-loop
-Inv-loop entries n missed₀ matched₀ removed₀ errors₀ k₀ missed matched removed errors k =
+Inv-loop entries unsupported n missed₀ matched₀ removed₀ errors₀ k₀ missed matched removed errors k =
     Counted entries 0 missed k × Counted entries 1 matched k × Counted entries 2 removed k × Counted entries 3 errors k
 
 abbrev μ-loop : tie.MeasureT-loop
-μ-loop entries n missed₀ matched₀ removed₀ errors₀ k₀ missed matched removed errors k = length entries / 2 - k
+μ-loop entries unsupported n missed₀ matched₀ removed₀ errors₀ k₀ missed matched removed errors k = length entries / 2 - k
 
 -- the entries, that they are in memory, and the verdict that a turn looks at
 abbrev words : tie.At-loop Inv-loop μ-loop → List ℕ
@@ -107,7 +107,7 @@ loop-again-2 c =
     )
 
 returns : tie.Need-returns Inv-loop μ-loop
-unfolding reportOf
+unfolding reportWith
 returns c =
     let h = c .before in
     let w = words h in
@@ -118,6 +118,7 @@ returns c =
       matched = counted-all w 1 (l .matched) (l .k) past (l .inv .1) i;
       removed = counted-all w 2 (l .removed) (l .k) past (l .inv .2) i;
       errors = counted-all w 3 (l .errors) (l .k) past (l .inv .3) i;
+      unsupported = h .before .before .args .unsupported;
     }
 
 pub count-verdicts-spec : {M : Type 1} → statement M

@@ -15,8 +15,8 @@ use Rattle.lists.proofs.RecordLaws.{length-actions}
 use Rattle.apply.specs.Codes.{codesOf}
 use Rattle.refusals.specs.FirstRefusal.{Sized, firstOfSeven}
 use Rattle.transaction.proofs.Promise.{few-of-seven}
-use Rattle.transaction.proofs.Tested.{Lent, callAt, sized-so, roomed-so, idle-is, digested, limited}
-use Rattle.transaction.proofs.Tested.{ran-first, ran-by, ran-nothing, ready-at, visited-at, ran-at}
+use Rattle.transaction.proofs.Tested.{Lent, givenIn, callAt, sized-so, roomed-so, idle-is, digested, limited}
+use Rattle.transaction.proofs.Tested.{ran-first, ran-by, ran-nothing, ready-at, visited-at, told-at, ran-at}
 use borrow.Author.Needs.{needs}
 use Rattle.transaction.proofs.run_phase.run_phase.Statement.{statement}
 use Rattle.transaction.proofs.run_phase.run_phase.Tie as tie
@@ -78,7 +78,7 @@ zero c = sym (first (c .before)) ∙ c .if1 .left
 
 codes : (c : tie.After-write-codes)
     → left c ≡ over (replicate 4096 0) (codesOf (given-coded c .text) (actionList (given-coded c .actions)))
-codes c = digested (given-coded c) (zero (past-seven c)) (left c) (c .write-codes .ensures)
+codes c = digested (given-coded c) (zero (past-seven c)) (left c) (c .write-codes .ensures .1)
 
 room : (c : tie.After-write-codes) → length (left c) ≡ 4096
 room c = c .write-codes .kept .1 .1 .0
@@ -181,13 +181,16 @@ part-walk-rules-end c =
     let d = coded (past-nine (c .before .before) .before) in
     fits (left d) 4096 (omega arith) (room d)
 
+-- all of them, lent
+whole : (d : tie.After-write-codes) → take (4096 - 0) (drop 0 (left d ++ [])) ≡ left d
+whole d = front (left d) 4096 ∙ take-all 4096 (left d) (omega (arith, room d))
+
 walk-rules-requires : tie.Need-walk-rules-requires
 walk-rules-requires c κs =
     let b = c .before .before .before .before .before in
     let p = b .before in
     let d = coded (past-nine p .before) in
-    ready-at (given-idle p) (passed (past-nine p)) (idle p ∙ b .if3 .left) _
-    (front (left d) 4096 ∙ (take-all 4096 (left d) (omega (arith, room d)) ∙ codes d))
+    ready-at (given-idle p) (passed (past-nine p)) (idle p ∙ b .if3 .left) _ (whole d ∙ codes d)
 
 abbrev start : tie.Else3 → tie.Start
 start c = past-seven (coded (past-nine (c .before) .before)) .before .before .before .before .before .before .before .before .before .before .before
@@ -212,17 +215,29 @@ mul-visited c =
     let w = c .before .before .before .before .before .before in
     omega (arith, visited w, w .walk-rules .kept .1 .1 .1 .1 .1 .1 .1 .1 .1 .1 .0, start (walking w) .good .1 .1 .1 .1 .1 .1 .1 .1 .1 .0 .1)
 
-sub-count-verdicts : tie.Need-sub-count-verdicts
-sub-count-verdicts c = search needs
+sub-tell : tie.Need-sub-tell
+sub-tell c = search needs
 
-part-count-verdicts-start : tie.Need-part-count-verdicts-start
-part-count-verdicts-start c = search needs
+part-tell-start : tie.Need-part-tell-start
+part-tell-start c = search needs
 
-part-count-verdicts-end : tie.Need-part-count-verdicts-end
-part-count-verdicts-end c = visited (c .before .before .before .before .before .before .before .before)
+part-tell-end : tie.Need-part-tell-end
+part-tell-end c = visited (c .before .before .before .before .before .before .before .before)
 
-count-verdicts-requires : tie.Need-count-verdicts-requires
-count-verdicts-requires c κs = search needs
+sub-tell-2 : tie.Need-sub-tell-2
+sub-tell-2 c = search needs
+
+part-tell-start-2 : tie.Need-part-tell-start-2
+part-tell-start-2 c = search needs
+
+part-tell-end-2 : tie.Need-part-tell-end-2
+part-tell-end-2 c =
+    let w = c .before .before .before .before .before .before .before .before .before .before in
+    let d = coded (past-nine (walking w .before) .before) in
+    fits (left d) 4096 (omega arith) (room d)
+
+tell-requires : tie.Need-tell-requires
+tell-requires c κs = search needs
 
 same-length : tie.Need-same-length
 same-length c = search needs
@@ -235,12 +250,14 @@ same-length-3 c = search needs
 
 returns-4 : tie.Need-returns-4
 returns-4 c =
-    let w = c .before .before .before .before .before .before .before .before .before .before in
+    let w = c .before .before .before .before .before .before .before .before .before .before .before .before in
     let b = walking w in
     let p = b .before in
+    let d = coded (past-nine p .before) in
     ran-at (given-idle p) (passed (past-nine p)) (idle p ∙ b .if3 .left) (w .walk-rules .result) (lists w) (w .walk-rules .ensures)
-    (c .count-verdicts .result)
-    (c .count-verdicts .ensures ∙ ap (λ (words : List ℕ). reportOf (journalList words)) (from-start (lists w .journal) (2 * w .walk-rules .result .answer .visits)))
+    (c .tell .result)
+    (told-at (given-coded d) (zero (past-seven d)) (left d) (codes d) _ _ (d .write-codes .result) (c .tell .result) (whole d) (d .write-codes .ensures .0) (c .tell .ensures)
+    ∙ ap (λ (words : List ℕ). reportOf (givenIn (given-idle p)) (journalList words)) (from-start (lists w .journal) (2 * w .walk-rules .result .answer .visits)))
 
 pub run-phase-spec : {M : Type 1} → statement M
 run-phase-spec =
@@ -269,10 +286,13 @@ run-phase-spec =
     part-walk-rules-end
     walk-rules-requires
     mul-visited
-    sub-count-verdicts
-    part-count-verdicts-start
-    part-count-verdicts-end
-    count-verdicts-requires
+    sub-tell
+    part-tell-start
+    part-tell-end
+    sub-tell-2
+    part-tell-start-2
+    part-tell-end-2
+    tell-requires
     same-length
     same-length-2
     same-length-3

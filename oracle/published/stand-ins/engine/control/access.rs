@@ -1,6 +1,8 @@
 //! Appended to engine/control.rs as a module, to reach its private fields: the
 //! controls at entry are set here, and the controls after a call read.
 
+use std::collections::HashSet;
+
 use super::{RuleIdRange, TransactionControls};
 use crate::engine::ruleset::RuleEngineMode;
 use crate::parser::VariableSpec;
@@ -52,5 +54,18 @@ impl TransactionControls {
     /// All targets held.
     pub fn removed_targets(&self) -> &[(String, VariableSpec)] {
         &self.removed_targets
+    }
+
+    /// What was reported already: it is not reported again.
+    pub fn reported(&self) -> &HashSet<String> {
+        &self.reported
+    }
+
+    /// The same controls, with nothing reported.
+    pub fn with_nothing_reported(&self) -> Self {
+        Self {
+            reported: HashSet::new(),
+            ..self.clone()
+        }
     }
 }
