@@ -32,7 +32,7 @@ passedOver =
     ∷ passingOver 1 4 (row "D69e" (call (rule 10 [] ∷ rule 11 (ctl "requestBodyAccess" "maybe" ∷ []) ∷ rule 12 (ctl "foo" "1" ∷ []) ∷ []) []) (record { visits = matched 0 ∷ matched 1 ∷ matched 2 ∷ []; ids = 10 ∷ 11 ∷ 12 ∷ []; data-entries = entry 10 0 ∷ entry 11 1 ∷ entry 12 2 ∷ []; allowed = false; stop = none }))
     ∷ passingOver 0 5 (row "D69f" (call (link 1 (ctl "requestBodyProcessor" "yaml" ∷ []) ∷ rule 2 (ctl "foo" "1" ∷ []) ∷ []) []) (record { visits = matched 0 ∷ matched 1 ∷ []; ids = 1 ∷ []; data-entries = entry 1 0 ∷ entry 2 1 ∷ []; allowed = false; stop = none }))
     ∷ passingOver 0 3 (row "D69g" (call (rule 10 (ctl "ruleRemoveTargetById" "1 ARGS" ∷ ctl "foo" "1" ∷ []) ∷ []) []) (record { visits = matched 0 ∷ []; ids = 10 ∷ []; data-entries = entry 10 0 ∷ []; allowed = false; stop = none }))
-    -- a supported directive is passed over by nothing
+    -- a supported directive before it is not told
     ∷ passingOver 0 1 (switching RuleEngineMode.DetectionOnly (row "D69h" (call (rule 10 (ctl "ruleEngine" "DetectionOnly" ∷ ctl "ruleEngine" "Maybe" ∷ []) ∷ []) []) (record { visits = matched 0 ∷ []; ids = 10 ∷ []; data-entries = entry 10 0 ∷ []; allowed = false; stop = none })))
     -- behind a broken chain
     ∷ passingOver 2 2 (row "D69i" (call (link 1 (ctl "foo" "1" ∷ []) ∷ missed (rule 2 []) ∷ rule 3 (ctl "ruleRemoveById" "1,5-4" ∷ []) ∷ []) []) (record { visits = matched 0 ∷ miss 1 ∷ matched 2 ∷ []; ids = 3 ∷ []; data-entries = entry 3 2 ∷ []; allowed = false; stop = none }))
