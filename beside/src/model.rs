@@ -2,6 +2,7 @@
 //! with the Rust. With a [`Reading`] it reads them wrongly in one place, so that the comparison can be seen to fail.
 
 mod directive;
+mod ranges;
 mod reading;
 mod unit;
 
@@ -15,7 +16,12 @@ pub use directive::{read as read_directive, trimmed};
 pub use reading::{Reading, READINGS};
 pub use unit::is_ctl;
 
+use ranges::{merged, with_smallest_ends};
 use reading::Reading as R;
+
+/// "more than 256 ranges, more than 64 targets"
+const MOST_RANGES: usize = 256;
+const MOST_TARGETS: usize = 64;
 
 /// A transaction and the rule set's mode and default status.
 pub struct Model {
@@ -23,6 +29,8 @@ pub struct Model {
     ruleset_mode: Mode,
     status: u64,
     held: Entry,
+    /// How many targets are held.
+    targets: usize,
 }
 
 impl Model {
@@ -33,22 +41,20 @@ impl Model {
             ruleset_mode: case.mode,
             status: u64::from(case.status),
             held: case.entry.clone(),
+            targets: 0,
         }
     }
 
     /// One phase call.
     pub fn call(&mut self, call: &Call) -> CallResult {
         let was_stopped = self.held.stopped;
-        let mut walk = Walk {
-            model: self,
-            call,
-            members: Vec::new(),
-            found: CallResult::empty(call.phase),
+        let mut found = match self.refusal(call) {
+            Some(number) => CallResult {
+                answer: Answer::Refused(number),
+                ..CallResult::empty(call.phase)
+            },
+            None => self.accepted(call),
         };
-        if !was_stopped && !walk.model.held.allowed {
-            walk.run();
-        }
-        let mut found = walk.found;
         if was_stopped {
             found.intervention = Stop::Held;
         }
@@ -58,6 +64,53 @@ impl Model {
         found.ranges = held.ranges.clone();
         found.allowed = held.allowed;
         found
+    }
+
+    /// A call that is not refused.
+    fn accepted(&mut self, call: &Call) -> CallResult {
+        let is_idle = self.held.stopped || self.held.allowed;
+        let before = self.held.ranges.len();
+        let mut walk = Walk {
+            model: self,
+            call,
+            members: Vec::new(),
+            found: CallResult::empty(call.phase),
+        };
+        if !is_idle {
+            walk.run();
+        }
+        let found = walk.found;
+        if self.held.ranges.len() > before {
+            self.held.ranges = self.merged(&self.held.ranges);
+        }
+        self.targets += found.targets.len();
+        found
+    }
+
+    /// The refusals that a well-formed call can meet: 3 with "ranges not in this form or with start above end", then 8, "the
+    /// merged ranges held plus the phase's own", and 9.
+    fn refusal(&self, call: &Call) -> Option<u64> {
+        let held = &self.held.ranges;
+        if merged(held, self.reads(R::ThreeLetsTouchingIn)) != *held {
+            return Some(3);
+        }
+        let (own, targets) = written(call);
+        let count = match self.reads(R::EightAfterMerging) {
+            true => merged(&[&held[..], &own].concat(), false).len(),
+            false => held.len() + own.len(),
+        };
+        if count > MOST_RANGES {
+            return Some(8);
+        }
+        (self.targets + targets > MOST_TARGETS).then_some(9)
+    }
+
+    /// A plain list of all ranges accepted as it is held.
+    fn merged(&self, plain: &[(u64, u64)]) -> Vec<(u64, u64)> {
+        match self.reads(R::SmallerEnd) {
+            true => with_smallest_ends(plain),
+            false => merged(plain, self.reads(R::TouchingApart)),
+        }
     }
 
     fn reads(&self, reading: Reading) -> bool {
@@ -76,6 +129,20 @@ impl Model {
         };
         id.is_some_and(|id| self.held.ranges.iter().any(|range| covers(id, range)))
     }
+}
+
+/// The ranges of all supported ruleRemoveById actions and how many targets there are, "counted rule by rule".
+fn written(call: &Call) -> (Vec<(u64, u64)>, usize) {
+    let (mut ranges, mut targets) = (Vec::new(), 0);
+    let of_rules = (0..call.rules.len()).flat_map(|index| call.actions_of(index));
+    for control in of_rules.filter(|action| unit::is_ctl(action)) {
+        match read_directive(call.text(control.text), call.text(control.value)) {
+            Directive::Ranges(more) => ranges.extend(more),
+            Directive::Target(..) => targets += 1,
+            _ => {}
+        }
+    }
+    (ranges, targets)
 }
 
 /// One walk over the rules of a call.

@@ -54,14 +54,16 @@ impl Ours {
         }
     }
 
-    /// One call, and what is wrong with it whatever the Rust says.
-    pub fn call(&mut self, call: &Call) -> (CallResult, Vec<&'static str>) {
+    /// One call, and what is wrong with it whatever else the Rust says. `adds_ranges` is whether the Rust's plain list is longer after
+    /// the call than before; it decides what the array places after those in use must hold.
+    pub fn call(&mut self, call: &Call, adds_ranges: bool) -> (CallResult, Vec<&'static str>) {
         self.lend_lists(call.rules.len());
         let before = self.held.clone();
         let lists_before = (self.ids.clone(), self.entries.clone());
         let answer = self.run(call);
         let visits = answer.visits as usize;
         let mut faults = self.faults(&before, &lists_before, visits);
+        faults.extend(self.unused_places(&before, adds_ranges));
         let told = answer.report.unsupported;
         let counted = Report {
             unsupported: told,
@@ -202,6 +204,23 @@ impl Ours {
         ]
     }
 
+    /// What is wrong with the array places after those in use. Where ranges were added, the places after the ranges are 0; where none
+    /// was, their arrays are as found, every place. The places after the targets are as found.
+    fn unused_places(&self, before: &HostTransaction, adds_ranges: bool) -> Option<&'static str> {
+        let (now, was) = (&self.held.controls, &before.controls);
+        fn rest(list: &[u64], used: u64) -> &[u64] {
+            &list[(used as usize).min(list.len())..]
+        }
+        let is_cleared = |list: &[u64]| rest(list, now.ranges).iter().all(|number| *number == 0);
+        let ranges = match adds_ranges {
+            true => is_cleared(&now.starts) && is_cleared(&now.ends),
+            false => now.starts == was.starts && now.ends == was.ends,
+        };
+        let targets = rest(&now.phases, now.targets) == rest(&was.phases, now.targets)
+            && rest(&now.positions, now.targets) == rest(&was.positions, now.targets);
+        (!(ranges && targets)).then_some("array places after those in use")
+    }
+
     /// What stands in transaction and lists after a call.
     fn found(&self, call: &Call, before: &HostTransaction) -> CallResult {
         let (now, controls) = (&self.held, &self.held.controls);
@@ -254,6 +273,7 @@ fn unused() -> HostTransaction {
 #[cfg(test)]
 mod tests {
     use super::*;
+    use tivembo::HostControls;
 
     /// What is wrong after something was changed that no call changes, in a transaction with one id and one target.
     fn faults(change: impl Fn(&mut Ours), visits: usize) -> Vec<&'static str> {
@@ -301,5 +321,45 @@ mod tests {
         assert_eq!(faults(|ours| ours.held.controls.mode = 4, 1), control);
         assert_eq!(faults(|ours| ours.held.controls.access = 3, 1), control);
         assert_eq!(faults(|ours| ours.held.controls.processor = 5, 1), control);
+    }
+
+    /// Whether places are right after something was changed, in a transaction with two ranges and one target.
+    fn unused_are_right(change: impl Fn(&mut HostControls), adds_ranges: bool) -> bool {
+        let mut ours = Ours::new(&Case::default());
+        (ours.held.controls.ranges, ours.held.controls.targets) = (2, 1);
+        let before = ours.held.clone();
+        change(&mut ours.held.controls);
+        ours.unused_places(&before, adds_ranges).is_none()
+    }
+
+    fn clear(controls: &mut HostControls, from: usize) {
+        controls.starts[from..].fill(0);
+        controls.ends[from..].fill(0);
+    }
+
+    #[test]
+    fn places_after_those_in_use() {
+        assert!(unused_are_right(|_| (), false));
+        assert!(!unused_are_right(|_| (), true));
+        assert!(unused_are_right(|it| clear(it, 2), true));
+        assert!(!unused_are_right(|it| clear(it, 2), false));
+        assert!(!unused_are_right(|it| clear(it, 3), true));
+        let one_less = |it: &mut HostControls| {
+            clear(it, 2);
+            it.ranges = 1;
+        };
+        assert!(!unused_are_right(one_less, true));
+        let changed = |it: &mut HostControls| {
+            clear(it, 2);
+            it.starts[1] = 7;
+        };
+        assert!(unused_are_right(changed, true));
+        assert!(!unused_are_right(|it| it.starts[1] = 7, false));
+        assert!(!unused_are_right(|it| it.ends[2] = 7, false));
+        assert!(!unused_are_right(|it| it.ends[255] = 7, false));
+        assert!(!unused_are_right(|it| it.starts[255] = 0, false));
+        assert!(unused_are_right(|it| it.positions[0] = 7, false));
+        assert!(!unused_are_right(|it| it.positions[1] = 7, false));
+        assert!(!unused_are_right(|it| it.phases[63] = 7, false));
     }
 }

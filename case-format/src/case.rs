@@ -45,7 +45,7 @@ pub struct Entry {
     pub body_access: Option<bool>,
     /// The body processor that a control has set.
     pub body_processor: Option<BodyProcessor>,
-    /// The removed ranges, in order.
+    /// The removed ranges, as written. Where they are not sorted and merged, every call is to be answered 3.
     pub ranges: Vec<(u64, u64)>,
     /// The request is allowed already.
     pub allowed: bool,

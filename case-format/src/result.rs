@@ -34,7 +34,7 @@ pub struct CallResult {
     pub body_access: Option<bool>,
     /// The body processor that a control has set.
     pub body_processor: Option<BodyProcessor>,
-    /// All ranges held after the call.
+    /// All ranges held after the call, sorted and merged; after a refusal as they were before.
     pub ranges: Vec<(u64, u64)>,
     /// The targets that this call added, before the drop of unknown names: rule id and target.
     pub targets: Vec<(Vec<u8>, Vec<u8>)>,

@@ -1,6 +1,6 @@
 /* Walks 01's cases C2 and C8 through the library, as a gateway in C does, and prints what they give. Then a chain whose second rule has
-   a directive that is passed over, and directives by themselves. Last, the controls by value: a range is added, and two ids are
-   asked for. host/c/test compares what is printed with walk.expected. */
+   a directive that is passed over, and directives by themselves. Last, the controls by value: a range is added and two ids are
+   asked for, a second range touches the first and is merged, and one that is held apart from it is refused. host/c/test compares what is printed with walk.expected. */
 #include <inttypes.h>
 #include <stdio.h>
 #include <string.h>
@@ -184,16 +184,28 @@ static void directives(void) {
     print_read("ruleRemoveById", "43,44");
 }
 
-/* A range from 942100 to 942999 is removed, both ends too. */
+static void print_ranges(TivemboHostChangeAnswer changed) {
+    printf("answer %" PRIu64 " ranges", changed.answer);
+    for (uint64_t i = 0; i < changed.controls.ranges; i++) {
+        printf(" %" PRIu64 "-%" PRIu64, changed.controls.starts[i], changed.controls.ends[i]);
+    }
+    printf("\n");
+}
+
+/* A range from 942100 to 942999 is removed, both ends too. One that touches it makes one of both. */
 static void controls(void) {
     TivemboHostControls none = {0};
+    printf("controls\n");
     TivemboHostChangeAnswer changed = tivembo_remove_range(none, 942100, 942999);
-    printf("controls\nanswer %" PRIu64 " ranges %" PRIu64 "\n", changed.answer, changed.controls.ranges);
+    print_ranges(changed);
     for (uint64_t id = 942999; id <= 943000; id++) {
         TivemboHostNumber asked = {.present = TIVEMBO_PRESENT_SOME, .value = id};
         TivemboHostQueryAnswer answer = tivembo_is_rule_removed(changed.controls, asked);
         printf("removed %" PRIu64 " answer %" PRIu64 " value %" PRIu64 "\n", id, answer.answer, answer.value);
     }
+    print_ranges(tivembo_remove_range(changed.controls, 943000, 943099));
+    TivemboHostControls apart = {.ranges = 2, .starts = {942100, 943000}, .ends = {942999, 943099}};
+    print_ranges(tivembo_remove_range(apart, 7, 7));
 }
 
 int main(void) {

@@ -227,11 +227,11 @@ typedef struct TivemboHostControls {
     uint64_t access;
     /* 0 not set, 1 URLENCODED, 2 MULTIPART, 3 JSON, 4 XML. */
     uint64_t processor;
-    /* How many ranges are held. */
+    /* How many ranges are held, merged. */
     uint64_t ranges;
     /* How many targets are held. */
     uint64_t targets;
-    /* Where the ranges start. */
+    /* Where the ranges start: rising, each at least two above the end before it. */
     uint64_t starts[TIVEMBO_LIMIT_RANGES];
     /* Where the ranges end; both ends are removed. */
     uint64_t ends[TIVEMBO_LIMIT_RANGES];
@@ -435,8 +435,8 @@ TivemboHostQueryAnswer tivembo_request_body_access(TivemboHostControls c);
 /* The body processor: 0 where none is set, else one more than its number. */
 TivemboHostQueryAnswer tivembo_request_body_processor(TivemboHostControls c);
 
-/* Adds a range of removed ids at the end. After 3 and an unknown number: 5 where the start is above the end, 8 where
-   256 are held. */
+/* Adds a range of removed ids, merged with those held, which may then be fewer. After 3 and an unknown number: 5
+   where the start is above the end, 8 where 256 are held, also where it would merge. */
 TivemboHostChangeAnswer tivembo_remove_range(TivemboHostControls c, uint64_t start, uint64_t end);
 
 /* Adds the place of a removed target at the end. After 3 and an unknown number: 9 where 64 are held. */

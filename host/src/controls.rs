@@ -1,13 +1,14 @@
 //! What directives have set, and questions to it.
 
 use crate::exported;
+use crate::ranges::RangeFault;
 use crate::records::{HostControls, HostQueryAnswer};
 use crate::values::{BodyProcessor, Mode, Place};
 use crate::Refusal;
 
 /// The controls of a transaction. The first six functions are the proved questions; they are refused only where a record
-/// was given that counts more than 256 ranges or 64 targets (3) or holds an unknown number (5). The others read the record
-/// as it is.
+/// was given that counts more than 256 ranges or 64 targets, or has ranges that are not merged (3), or holds an unknown number
+/// (5). The others read the record as it is.
 #[derive(Debug, Clone, Copy)]
 pub struct Controls<'a>(pub(crate) &'a HostControls);
 
@@ -84,11 +85,38 @@ impl<'a> Controls<'a> {
         BodyProcessor::from_number(number)
     }
 
-    /// The removed ranges, in order; both ends of each are removed.
+    /// The removed ranges, merged: sorted by start, and no two of them overlap or touch. Both ends of each are removed.
+    ///
+    /// ```
+    /// use tivembo::Transaction;
+    /// let mut transaction = Transaction::new();
+    /// for (start, end) in [(8, 9), (1, 1), (5, 7)] {
+    ///     transaction.remove_range(start, end)?;
+    /// }
+    /// assert_eq!(transaction.controls().ranges().collect::<Vec<_>>(), [(1, 1), (5, 9)]);
+    /// # Ok::<(), tivembo::Refusal>(())
+    /// ```
     pub fn ranges(&self) -> impl Iterator<Item = (u64, u64)> + 'a {
         let ends = self.0.ends.iter().copied();
         let ranges = self.0.starts.iter().copied().zip(ends);
         ranges.take(self.0.ranges as usize)
+    }
+
+    /// Where the ranges are not merged, so that calls and questions are refused with 3. No call leaves them so; a record that the
+    /// host made can have them.
+    ///
+    /// ```
+    /// use tivembo::{HostTransaction, Transaction};
+    /// let mut record = HostTransaction::default();
+    /// record.controls.ranges = 2;
+    /// record.controls.starts[..2].copy_from_slice(&[1, 3]);
+    /// record.controls.ends[..2].copy_from_slice(&[2, 4]);
+    /// let transaction = Transaction::from_record(record, Vec::new(), Vec::new());
+    /// let fault = transaction.controls().range_fault().expect("3 comes directly after 2");
+    /// assert_eq!(fault.to_string(), "ranges 1-2 and 3-4 touch: merged they are 1-4");
+    /// ```
+    pub fn range_fault(&self) -> Option<RangeFault> {
+        RangeFault::first(self.ranges())
     }
 }
 

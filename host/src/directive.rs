@@ -10,7 +10,7 @@ use crate::{Refusal, UnsupportedReason};
 pub enum Directive<'a> {
     /// The mode from here on.
     RuleEngine(Mode),
-    /// The removed ids as ranges; both ends are removed.
+    /// The removed ids as ranges, in the order in which they are written; both ends are removed.
     RuleRemoveById(Vec<(u64, u64)>),
     /// A target that is removed from a rule.
     RuleRemoveTargetById(Target<'a>),

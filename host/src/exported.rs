@@ -177,8 +177,8 @@ pub fn request_body_processor(c: HostControls) -> HostQueryAnswer {
     unsafe { tivembo_request_body_processor(c) }
 }
 
-/// Adds a range of removed ids at the end. After 3 and an unknown number: 5 where the start is above the end, 8 where
-/// 256 are held.
+/// Adds a range of removed ids, merged with those held, which may then be fewer. After 3 and an unknown number: 5 where
+/// the start is above the end, 8 where 256 are held, also where it would merge.
 pub fn remove_range(c: HostControls, start: u64, end: u64) -> HostChangeAnswer {
     // SAFETY: the contract has no `requires`.
     unsafe { tivembo_remove_range(c, start, end) }

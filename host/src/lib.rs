@@ -55,6 +55,30 @@
 //! [`Records::unsupported_in`] needs no call: a gateway that asks it for every rule when it reads its rules tells of all of
 //! them, once.
 //!
+//! # Removed ranges
+//!
+//! A transaction holds the ranges of removed ids merged, whatever the order in which they were added: sorted by start, and those
+//! that overlap or touch as one. [`Controls::ranges`] has them.
+//!
+//! ```
+//! use tivembo::{Act, Mode, Outcome, RuleSet, Transaction};
+//!
+//! let mut builder = RuleSet::builder();
+//! builder.rule(Some(1), false, &[Act::Ctl(b"ruleRemoveById", b"950000, 942200-942299")]);
+//! builder.rule(Some(2), false, &[Act::Ctl(b"ruleRemoveById", b"942100-942199")]);
+//! let rules = builder.build()?;
+//!
+//! let mut transaction = Transaction::new();
+//! transaction.run_phase(&rules, 1, Mode::On, 403, &[Outcome::Matched; 2])?;
+//! let held: Vec<_> = transaction.controls().ranges().collect();
+//! assert_eq!(held, [(942_100, 942_299), (950_000, 950_000)]);
+//! # Ok::<(), Box<dyn std::error::Error>>(())
+//! ```
+//!
+//! The limit of 256 counts the ranges held and those that the rules of a call have, as they are written: [`Refusal::TooManyRanges`]
+//! comes also where they would merge. Only a host that makes records itself can hold ranges in another form. Its calls are
+//! refused ([`Refusal::Miscounted`]), and [`Controls::range_fault`] says why; [`Transaction::remove_range`] adds ranges in any order.
+//!
 //! # What is proved, and what is not
 //!
 //! Behind every call stands a function of libhost.a that is proved to do what the definitions say, whatever it is lent: see
@@ -86,6 +110,7 @@ mod exported;
 mod intervention;
 mod limits;
 mod phase;
+mod ranges;
 pub mod raw;
 pub mod records;
 mod refusal;
@@ -103,6 +128,7 @@ pub use directive::{read_directive, Directive, Target};
 pub use intervention::{Intervention, Metadata};
 pub use limits::{Broken, Limit, Where};
 pub use phase::{Answer, Phase};
+pub use ranges::RangeFault;
 pub use records::{
     Action, Answer as HostAnswer, CallSettings, DataEntry, HostChangeAnswer, HostControls,
     HostIntervention, HostMarker, HostMetadata, HostNumber, HostPlace, HostQueryAnswer, HostTarget,

@@ -33,7 +33,7 @@ pub enum Limit {
     Position,
     /// A byte of 80 (hexadecimal) or more.
     HighByte,
-    /// More than 256 removed ranges in all rules together.
+    /// More than 256 removed ranges in all rules together, as they are written.
     Ranges,
     /// More than 64 removed targets in all rules together.
     Targets,

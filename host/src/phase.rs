@@ -21,7 +21,6 @@ pub enum Answer {
 pub(crate) struct Before {
     ids: usize,
     entries: usize,
-    ranges: usize,
     targets: usize,
     allowed: bool,
     stopped: bool,
@@ -33,7 +32,6 @@ impl Before {
         Self {
             ids: count(record.ids),
             entries: count(record.entries),
-            ranges: count(record.controls.ranges),
             targets: count(record.controls.targets),
             allowed: record.allowed == 1,
             stopped: record.intervention.present == 1,
@@ -41,7 +39,8 @@ impl Before {
     }
 }
 
-/// What one call gave: the journal, and what the call added to its transaction.
+/// What one call gave: the journal, and what the call added to its transaction. Ranges are merged with those held before, so that
+/// only [`Controls::ranges`](crate::Controls::ranges) has them.
 #[derive(Debug, Clone, Copy)]
 pub struct Phase<'t> {
     transaction: &'t Transaction,
@@ -142,14 +141,6 @@ impl<'t> Phase<'t> {
     pub fn data(&self) -> impl Iterator<Item = Data> + 't {
         let entries = self.transaction.data_records();
         after(entries, self.before.entries).iter().map(Data::from)
-    }
-
-    /// The ranges of removed ids that this call added.
-    pub fn ranges(&self) -> impl Iterator<Item = (u64, u64)> + 't {
-        self.transaction
-            .controls()
-            .ranges()
-            .skip(self.before.ranges)
     }
 
     /// The places of the removed targets that this call added.

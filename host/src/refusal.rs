@@ -13,7 +13,8 @@ pub enum Refusal {
     UnknownPhaseOrMode = 1,
     /// Too many rules, actions, markers or bytes; for the directive reader, a text that is too long.
     TooLarge = 2,
-    /// The transaction counts more than it or a list can hold.
+    /// The transaction counts more than it or a list can hold, or its ranges are not merged
+    /// ([`Controls::range_fault`](crate::Controls::range_fault)).
     Miscounted = 3,
     /// The outcomes are not as many as the rules.
     OutcomeCount = 4,
@@ -23,7 +24,7 @@ pub enum Refusal {
     HighByte = 6,
     /// A list has too few free entries.
     NoRoom = 7,
-    /// Ranges, held and to come, are more than 256.
+    /// Ranges, those held and those to come as they are written, are more than 256, also where some would merge.
     TooManyRanges = 8,
     /// Targets, held and to come, are more than 64.
     TooManyTargets = 9,
@@ -44,13 +45,14 @@ const REFUSALS: [Refusal; 9] = [
 const SENTENCES: [&str; 9] = [
     "the phase is not 1 to 5, or the mode is none of On, DetectionOnly and Off",
     "there are more than 512 rules, 4,096 actions, 256 markers or 65,536 bytes of text",
-    "the transaction counts more than 256 ranges, more than 64 targets, or more entries than a lent list has",
+    "the transaction counts more than 256 ranges, more than 64 targets, or more entries than a lent list has, \
+     or its ranges are not sorted by start with an id between each two, or one starts above its end",
     "the outcomes are not as many as the rules",
     "a record holds an unknown kind, flag or outcome, a number above its limit, a part outside its list or text, \
      a marker after the last rule, or a range that starts above its end",
     "the text has a byte of 80 (hexadecimal) or more",
     "a lent list has too few free entries",
-    "held ranges and those of all rules together are more than 256",
+    "held ranges and those of all rules as written are together more than 256, also where they would merge",
     "held targets and those of all rules together are more than 64",
 ];
 

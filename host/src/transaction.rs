@@ -77,7 +77,8 @@ impl Transaction {
         }
     }
 
-    /// A transaction of a record and lists as they are, whatever they hold.
+    /// A transaction of a record and lists as they are, whatever they hold. Ranges that a host has in any order it adds with
+    /// [`remove_range`](Self::remove_range), which merges them.
     pub fn from_record(record: HostTransaction, ids: Vec<u64>, entries: Vec<DataEntry>) -> Self {
         Self {
             record,
@@ -183,8 +184,19 @@ impl Transaction {
         Controls(&self.record.controls)
     }
 
-    /// Removes all rules with an id from `start` to `end`, both included, as a ruleRemoveById does. Refused with 5 (start
-    /// above end) and 8 (256 ranges are held).
+    /// Removes all rules with an id from `start` to `end`, both included, as a ruleRemoveById does. The range is merged with
+    /// those held, which can then be fewer. Refused with 5 (start above end) and 8 (256 ranges are held, also where this one
+    /// would merge).
+    ///
+    /// ```
+    /// use tivembo::Transaction;
+    /// let mut transaction = Transaction::new();
+    /// transaction.remove_range(1, 1)?;
+    /// transaction.remove_range(3, 3)?;
+    /// transaction.remove_range(2, 2)?;
+    /// assert_eq!(transaction.controls().ranges().collect::<Vec<_>>(), [(1, 3)]);
+    /// # Ok::<(), tivembo::Refusal>(())
+    /// ```
     pub fn remove_range(&mut self, start: u64, end: u64) -> Result<(), Refusal> {
         self.change(raw::remove_range(self.record.controls, start, end))
     }

@@ -48,7 +48,8 @@ fn first_phase(transaction: &mut Transaction, rules: &RuleSet) -> Checked {
         index: 0,
     };
     assert_eq!(phase.data().collect::<Vec<_>>(), [data]);
-    assert_eq!(phase.ranges().collect::<Vec<_>>(), [(942_100, 942_999)]);
+    let ranges = phase.transaction().controls().ranges();
+    assert_eq!(ranges.collect::<Vec<_>>(), [(942_100, 942_999)]);
     assert_eq!(phase.targets().collect::<Vec<_>>(), [PLACE]);
     assert!(phase.intervention().is_none() && !phase.allows());
     Ok(())
@@ -63,7 +64,7 @@ fn second_phase(transaction: &mut Transaction, rules: &RuleSet) -> Checked {
     assert_eq!(phase.ids(), [943_000]);
     let ids: Vec<_> = phase.data().map(|data| data.id).collect();
     assert_eq!(ids, [Some(943_000); 2]);
-    assert_eq!(phase.ranges().count() + phase.targets().count(), 0);
+    assert_eq!(phase.targets().count(), 0);
     assert_eq!(phase.transaction().matched_ids(), [1, 2, 943_000]);
     assert_eq!(phase.transaction().data().count(), 3);
     assert!(phase.intervention().is_some());

@@ -82,7 +82,8 @@ fn targets_are_added_up_to_their_limit() {
     assert_eq!(transaction.controls().target(64), Ok(None));
 }
 
-/// Counts that nothing can hold are refused by every question and addition, and so are numbers that are none.
+/// Counts that nothing can hold are refused by every question and addition, and so are numbers that are none. Ranges that are
+/// not merged are in tests/ranges.rs.
 #[test]
 fn wrong_records_are_refused() {
     let too_many = HostControls {

@@ -26,7 +26,7 @@ fn wrong_calls_are_found() {
     let names = std::str::from_utf8(&names.stdout).expect("plain text");
     assert!(names.lines().count() > 0);
     for name in names.lines() {
-        let output = refused(&["--planted", name, "2000", "1"]);
+        let output = refused(&["--planted", name, "4000", "1"]);
         assert!(!last_line(&output).ends_with(" 0 wrong"), "{name}");
         assert_eq!(output.status.code(), Some(1), "{name}");
     }

@@ -53,13 +53,19 @@ fn every_number_of_the_controls_is_read() {
     }
 }
 
+/// Each range goes before those held, so that all of them move; the places after them are cleared.
 #[test]
 fn every_number_of_the_controls_is_written() {
     let mut held = pattern();
+    held.starts.fill(0);
+    held.ends.fill(0);
     for at in 0..MOST_RANGES {
-        let (start, end) = (7 + at as u64, 900 + at as u64);
-        let changed = raw::remove_range(held, start, end);
-        (held.starts[at], held.ends[at]) = (start, end);
+        let (start, end) = (8_000 - 10 * at as u64, 8_005 - 10 * at as u64);
+        let given = if at == 0 { pattern() } else { held };
+        let changed = raw::remove_range(given, start, end);
+        held.starts.copy_within(..at, 1);
+        held.ends.copy_within(..at, 1);
+        (held.starts[0], held.ends[0]) = (start, end);
         held.ranges += 1;
         assert_eq!((changed.answer, changed.controls), (0, held), "range {at}");
     }
@@ -108,7 +114,7 @@ fn number(value: u64) -> HostNumber {
     HostNumber { present: 1, value }
 }
 
-/// What the unit leaves, in a transaction that held three ranges and two targets.
+/// What the unit leaves, in a transaction that held three ranges and two targets; its own ranges stand before these.
 fn expected(status: u64, url: HostPlace, drop: u64) -> HostTransaction {
     let intervention = HostIntervention {
         present: 1,
@@ -139,8 +145,15 @@ fn controls() -> HostControls {
         targets: 3,
         ..pattern()
     };
-    (controls.starts[3], controls.ends[3]) = (500, 600);
-    (controls.starts[4], controls.ends[4]) = (700, 700);
+    let ranges = [(500, 600), (700, 700), (1_000_001, 1_000_005)];
+    let ranges = ranges
+        .into_iter()
+        .chain([(1_000_011, 1_000_015), (1_000_021, 1_000_025)]);
+    controls.starts.fill(0);
+    controls.ends.fill(0);
+    for (at, range) in ranges.enumerate() {
+        (controls.starts[at], controls.ends[at]) = range;
+    }
     (controls.phases[2], controls.positions[2]) = (3, 13);
     controls
 }
@@ -336,6 +349,16 @@ fn every_refusal_of_a_question_and_of_an_addition() {
     assert_eq!((asked.answer, asked.value), (3, 0));
     let asked = raw::target_at(beyond, 0);
     assert_eq!((asked.answer, asked.target), (3, HostPlace::default()));
+    let mut touching = HostControls {
+        ranges: MOST_RANGES as u64,
+        ..pattern()
+    };
+    touching.starts[255] = touching.ends[254] + 1;
+    assert_eq!(raw::target_count(touching).answer, 3);
+    let refused = raw::remove_range(touching, 7, 7);
+    assert_eq!((refused.answer, refused.controls), (3, touching));
+    let refused = raw::remove_target(touching, 7, 7);
+    assert_eq!((refused.answer, refused.controls), (3, touching));
     let refused = raw::remove_range(pattern(), 8, 7);
     assert_eq!((refused.answer, refused.controls), (5, pattern()));
 }

@@ -10,12 +10,14 @@ mod domain;
 mod feed;
 mod found;
 mod given;
+mod merged;
 mod numbered;
 mod run;
 mod timed;
 
 pub use domain::RustDomain;
 pub use found::{directive_answer, reason};
+pub use merged::merged;
 pub use run::{directive, run_case, Run};
 pub use timed::{Missed, Timed};
 

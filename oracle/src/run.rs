@@ -7,6 +7,7 @@ use published::engine::transaction::{MatchedData, Transaction};
 use published::listen;
 use published::parser::VariableSpec;
 
+use crate::merged::merged;
 use crate::numbered::Numbered;
 use crate::{feed, found, given};
 
@@ -86,6 +87,11 @@ impl Run {
         }
     }
 
+    /// The ranges as the Rust holds them: each as it was added, in that order.
+    pub fn plain_ranges(&self) -> Vec<(u64, u64)> {
+        found::ranges(self.transaction.controls().removed_rules())
+    }
+
     fn removed_targets(&self) -> &[(String, VariableSpec)] {
         self.transaction.controls().removed_targets()
     }
@@ -115,7 +121,7 @@ impl Run {
             mode: controls.set_engine_mode().map(found::mode),
             body_access: controls.set_request_body_access(),
             body_processor: controls.request_body_processor().map(found::body_processor),
-            ranges: found::ranges(controls.removed_rules()),
+            ranges: merged(&self.plain_ranges()),
             targets: Vec::new(),
             allowed: self.transaction.allowed(),
             intervention: self.stop(held),
@@ -157,14 +163,18 @@ mod tests {
     use case_format::{Item, Reader};
     use published::engine::control::TransactionControls;
 
-    /// What the calls of a case gave.
-    fn results(calls: &str) -> Vec<CallResult> {
+    fn case(calls: &str) -> Case {
         let text = format!("case x\nmode On\nblock-status 403\n{calls}end\n");
         let item = Reader::new(text.as_bytes()).item();
         let Ok(Some(Item::Case(case))) = item else {
             panic!("not a case: {item:?}");
         };
-        run_case(&case).calls
+        case
+    }
+
+    /// What the calls of a case gave.
+    fn results(calls: &str) -> Vec<CallResult> {
+        run_case(&case(calls)).calls
     }
 
     fn unsupported(calls: &str) -> Vec<String> {
@@ -207,6 +217,22 @@ mod tests {
         assert_eq!((found[0].unsupported, found[0].targets.len()), (None, 2));
         let more = "rule 2 matched\nctl \"auditEngine\" \"On\"\n";
         assert_eq!(unsupported(&format!("{call}{more}")), ["1 6"]);
+    }
+
+    /// The published code keeps each range as it was added; what is held is told in the merged form.
+    #[test]
+    fn ranges_are_told_merged() {
+        let rule =
+            |ids: &str| format!("call 1\nrule 1 matched\nctl \"ruleRemoveById\" \"{ids}\"\n");
+        let calls = format!("entry-range 30 31\n{}{}", rule("8-9,20"), rule("5-7,9"));
+        let found = results(&calls);
+        assert_eq!(found[0].ranges, [(8, 9), (20, 20), (30, 31)]);
+        assert_eq!(found[1].ranges, [(5, 9), (20, 20), (30, 31)]);
+        let case = case(&calls);
+        let mut run = Run::new(case.mode, case.block_status, &case.entry);
+        case.calls.iter().for_each(|call| drop(run.call(call)));
+        let plain = [(30, 31), (8, 9), (20, 20), (5, 7), (9, 9)];
+        assert_eq!(run.plain_ranges(), plain);
     }
 
     /// Of all that the published code says, only what it says of unsupported directives is heard.

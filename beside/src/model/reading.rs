@@ -1,6 +1,6 @@
 //! Wrong readings of the papers that can be planted.
 
-/// A wrong reading. The first six are 01's "Readings that tempt", the last two are of 02.
+/// A wrong reading. The first six are 01's "Readings that tempt", the last six are of 02.
 #[derive(Debug, Clone, Copy, PartialEq, Eq)]
 pub enum Reading {
     RangeShort,
@@ -17,10 +17,14 @@ pub enum Reading {
     RemovedLinkAlone,
     LastUnsupported,
     UnsupportedAtStarter,
+    TouchingApart,
+    SmallerEnd,
+    EightAfterMerging,
+    ThreeLetsTouchingIn,
 }
 
 /// All of them, with their names and what they say.
-pub const READINGS: [(&str, Reading, &str); 14] = [
+pub const READINGS: [(&str, Reading, &str); 18] = [
     (
         "range-short",
         Reading::RangeShort,
@@ -90,5 +94,25 @@ pub const READINGS: [(&str, Reading, &str); 14] = [
         "unsupported-at-starter",
         Reading::UnsupportedAtStarter,
         "an unsupported directive is told with the index of its unit's starter",
+    ),
+    (
+        "touching-apart",
+        Reading::TouchingApart,
+        "ranges that touch are not merged",
+    ),
+    (
+        "smaller-end",
+        Reading::SmallerEnd,
+        "of ranges that are merged the smallest end stays",
+    ),
+    (
+        "eight-after-merging",
+        Reading::EightAfterMerging,
+        "8 counts the ranges held and the phase's own after merging all of them",
+    ),
+    (
+        "three-lets-touching-in",
+        Reading::ThreeLetsTouchingIn,
+        "3 lets ranges in that touch",
     ),
 ];

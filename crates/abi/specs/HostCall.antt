@@ -7,7 +7,9 @@ use lib.Dec.{eqb, ltb}
 use lib.ListN.{take}
 use Rattle.reading.specs.Records.{LentLists}
 use Rattle.reading.specs.Call.{Given, Call}
+use Rattle.reading.specs.Controls.{badControls}
 use Rattle.reading.specs.Refusals.{refused1, refused2, refused3, refused4}
+use Rattle.control.specs.ControlsStruct.{controlsOf}
 use Rattle.refusals.specs.declared.first.Sizes.{Sizes}
 use Rattle.abi.specs.declared.marker_words.MarkerWords.{MarkerWords}
 use Rattle.transaction.specs.declared.types.Answer.{Answer}
@@ -55,8 +57,7 @@ pub record HostRan (h : HostTransaction) (g : Given) (l : LentLists) (a : Answer
 -- what the record counts, and how many entries lists of so many numbers have: four to a data entry
 abbrev pub sizesOf : HostTransaction → ℕ → ℕ → Sizes
 sizesOf h ids entries = record {
-  ranges = h .controls .ranges;
-  targets = h .controls .targets;
+  «bad_controls» = badControls (controlsOf (fromHost h .controls));
   «ids_used» = h .ids;
   «entries_used» = h .entries;
   ids = ids;

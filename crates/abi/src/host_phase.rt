@@ -8,6 +8,7 @@ use crate::host_intervention::HostIntervention;
 use crate::marker_words;
 use crate::marker_words::MarkerWords;
 use crate::values;
+use control::fields;
 use reading::CallSettings;
 use reading::widths;
 use refusals::first;
@@ -129,9 +130,11 @@ fn counts_of(rules: usize, actions: usize, words: usize, bytes: usize, outcomes:
 fn sizes_of(h: HostTransaction, ids: usize, entries: usize) -> Sizes
     ensures { λ r. ⌜ r ≡ sizesOf h ids entries ⌝ }
 {
+    let ranges = h.controls.ranges as usize;
+    let targets = h.controls.targets as usize;
+    let bad_controls = fields::is_bad(&h.controls.starts, &h.controls.ends, ranges, targets);
     Sizes {
-        ranges: h.controls.ranges as usize,
-        targets: h.controls.targets as usize,
+        bad_controls,
         ids_used: h.ids as usize,
         entries_used: h.entries as usize,
         ids,

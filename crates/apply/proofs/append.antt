@@ -1,3 +1,3 @@
 pub mod WrittenLaws
-pub mod RangeLaws
 pub mod LentLaws
+pub mod ChangedLaws

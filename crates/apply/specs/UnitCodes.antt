@@ -12,9 +12,10 @@ use Rattle.reading.specs.declared.BodyAccess.{BodyAccess}
 use Rattle.reading.specs.declared.BodyProcessor.{BodyProcessor}
 use Rattle.reading.specs.Text.{partOf, trim}
 use Rattle.reading.specs.Directive.{removalValue, rangesOf}
-use Rattle.reading.specs.Controls.{Controls, withMode, withAccess, withProcessor, withTarget, withAllRanges}
+use Rattle.reading.specs.Controls.{Controls, withMode, withAccess, withProcessor}
 use Rattle.reading.specs.Call.{noRule}
 use Rattle.reading.specs.Walk.{noAction}
+use Rattle.apply.specs.Append.{targetIfRoom, rangesIfRoom}
 
 -- what a code below 17 sets: 8 to 10 the mode, 11 and 12 the body access, 13 to 16 the processor, those below 8 nothing
 abbrev pub settingByCode : ℕ → Controls → Controls
@@ -34,7 +35,7 @@ settingByCode code c =
 unfoldable pub appliedCode : Place → List ℕ → ℕ → Controls → Controls
 appliedCode at value code c =
     cond (leb code 16) (settingByCode code c)
-    (cond (eqb code 17) (withTarget c at) (withAllRanges c (rangesOf (removalValue (trim value)))))
+    (cond (eqb code 17) (targetIfRoom c at) (rangesIfRoom c (rangesOf (removalValue (trim value)))))
 
 -- what the coded actions are lent with: the phase, the text and the actions
 pub record Source : Type 0 where

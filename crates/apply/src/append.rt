@@ -1,5 +1,5 @@
-// One target and the ranges of a value, added to controls whose arrays are lent.
-use control::fields;
+// One target, and the ranges of a value, added to controls whose arrays are lent.
+use control::ranges;
 use control::state::Settings;
 use ctl::id_ranges;
 use ctl::range_count;
@@ -14,7 +14,7 @@ ghost use lib.ListN.{length};
 ghost use lib.Seq.{sets};
 ghost use Rattle.reading.specs.Text.{idParts, rangesIn};
 ghost use Rattle.reading.specs.Directive.{startOf, endOf};
-ghost use Rattle.apply.specs.Append.{TargetAdded, RangesAdded};
+ghost use Rattle.apply.specs.Append.{TargetAdded, Fitting, RangesAdded};
 
 // What of the controls is passed by value: their settings, and how many places of their arrays are in use. The four arrays
 // are lent beside it, so that nothing of them is copied.
@@ -22,6 +22,8 @@ pub struct ControlCounts {
     pub settings: Settings,
     pub ranges: usize,
     pub targets: usize,
+    // Whether ranges were added since the call was entered.
+    pub added: bool,
 }
 
 // One target at the end, where no limit refuses it.
@@ -34,9 +36,6 @@ pub fn add_target(
     ensures { λ r. ⌜ TargetAdded h at (now (phases .entry)) (now (positions .entry)) r (now (phases .exit)) (now (positions .exit)) ⌝ }
 {
     let n = h.targets;
-    if fields::is_beyond(h.ranges, n) {
-        return h;
-    }
     if limits::TARGETS <= n {
         return h;
     }
@@ -51,6 +50,7 @@ pub fn add_target(
         settings,
         ranges,
         targets: n + 1,
+        added: h.added,
     }
 }
 
@@ -64,7 +64,24 @@ fn write_after(value: &[u8], used: usize, starts: &mut [u64], ends: &mut [u64])
     id_ranges::write_ranges(value, &mut starts[used..], &mut ends[used..]);
 }
 
-// The ranges of a value at the end, all or none.
+// How many ranges of a trimmed value are added to so many: all, or none where they do not fit.
+fn fitting(value: &[u8], used: usize) -> usize
+    ensures { λ r. ⌜ Fitting (now (value .entry)) used r ⌝ }
+{
+    let RangeCount::Ranges(n) = range_count::count_ranges(value) else {
+        return 0;
+    };
+    if limits::RANGES < used {
+        return 0;
+    }
+    if limits::RANGES - used < n {
+        return 0;
+    }
+    n
+}
+
+// The ranges of a value merged in, all or none. The first addition of a call makes every place after the ranges in use 0; later ones find
+// them so, and merging keeps it.
 pub fn add_ranges(
     h: ControlCounts,
     value: &[u8],
@@ -74,22 +91,25 @@ pub fn add_ranges(
     ensures { λ r. ⌜ RangesAdded h (now (value .entry)) (now (starts .entry)) (now (ends .entry)) r (now (starts .exit)) (now (ends .exit)) ⌝ }
 {
     let used = h.ranges;
-    if fields::is_beyond(used, h.targets) {
-        return h;
-    }
-    let v = trim::trim(value);
-    let RangeCount::Ranges(n) = range_count::count_ranges(v) else {
-        return h;
-    };
-    if limits::RANGES - used < n {
-        return h;
-    }
-    write_after(v, used, starts, ends);
+    ranges::clear_once(h.added, starts, used);
+    ranges::clear_once(h.added, ends, used);
     let settings = h.settings;
     let targets = h.targets;
+    let v = trim::trim(value);
+    let n = fitting(v, used);
+    if n == 0 {
+        return ControlCounts {
+            settings,
+            ranges: used,
+            targets,
+            added: true,
+        };
+    }
+    write_after(v, used, starts, ends);
     ControlCounts {
         settings,
-        ranges: used + n,
+        ranges: ranges::merge_after(starts, ends, used, used + n),
         targets,
+        added: true,
     }
 }

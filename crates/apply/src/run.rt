@@ -13,7 +13,7 @@ use reading::widths;
 use ruleset::rules;
 use text::span;
 ghost use mathlib.Core.List.{[], _∷_};
-ghost use lib.Dec.{eqb};
+ghost use lib.Dec.{ltb, eqb};
 ghost use lib.ListN.{getD};
 ghost use Rattle.reading.specs.Lists.{keep};
 ghost use Rattle.reading.specs.Text.{partOf};
@@ -22,6 +22,7 @@ ghost use Rattle.reading.specs.Records.{ruleList, actionList, journalList, matc
 ghost use Rattle.control.specs.ControlsStruct.{controlsOf};
 ghost use Rattle.apply.specs.Append.{structOf};
 ghost use Rattle.apply.specs.UnitCodes.{appliedCode, ruleByCodes, unitByCodes};
+ghost use Rattle.apply.specs.UnitChanges.{ruleAdds, unitAdds};
 ghost use Rattle.apply.specs.ApplyUnit.{Turned};
 
 // The controls after the action at an index, by its code: up to `XML` a setting or nothing, `TARGET` the place as a target, all others the ranges
@@ -38,7 +39,7 @@ fn apply(
     phases: &mut [u64; limits::TARGETS],
     positions: &mut [u64; limits::TARGETS],
 ) -> ControlCounts
-    ensures { λ r. ⌜ Turned h (now (starts .entry)) (now (ends .entry)) (now (phases .entry)) (now (positions .entry))
+    ensures { λ r. ⌜ Turned (ltb 17 code) h (now (starts .entry)) (now (ends .entry)) (now (phases .entry)) (now (positions .entry))
         r (now (starts .exit)) (now (ends .exit)) (now (phases .exit)) (now (positions .exit))
         (appliedCode (record { phase = phase; position = i })
         (partOf (now (text .entry)) (getD (actionList (now (actions .entry))) i noAction .value)) code
@@ -52,6 +53,7 @@ fn apply(
             settings,
             ranges,
             targets,
+            added: h.added,
         };
     }
     if code == codes::TARGET {
@@ -79,7 +81,7 @@ fn rule_controls(
     phases: &mut [u64; limits::TARGETS],
     positions: &mut [u64; limits::TARGETS],
 ) -> ControlCounts
-    ensures { λ r. ⌜ Turned h (now (starts .entry)) (now (ends .entry)) (now (phases .entry)) (now (positions .entry))
+    ensures { λ r. ⌜ Turned (ruleAdds (now (codes .entry)) rule) h (now (starts .entry)) (now (ends .entry)) (now (phases .entry)) (now (positions .entry))
         r (now (starts .exit)) (now (ends .exit)) (now (phases .exit)) (now (positions .exit))
         (ruleByCodes (record { phase = phase; text = now (text .entry); actions = actionList (now (actions .entry)) }) (now (codes .entry)) rule
         (controlsOf (structOf h (now (starts .entry)) (now (ends .entry)) (now (phases .entry)) (now (positions .entry))))) ⌝ }
@@ -122,7 +124,7 @@ fn entry_controls(
     phases: &mut [u64; limits::TARGETS],
     positions: &mut [u64; limits::TARGETS],
 ) -> ControlCounts
-    ensures { λ r. ⌜ Turned h (now (starts .entry)) (now (ends .entry)) (now (phases .entry)) (now (positions .entry))
+    ensures { λ r. ⌜ Turned (unitAdds (now (codes .entry)) (ruleList (now (rules .entry))) (keep (eqb verdict 1) (index ∷ []))) h (now (starts .entry)) (now (ends .entry)) (now (phases .entry)) (now (positions .entry))
         r (now (starts .exit)) (now (ends .exit)) (now (phases .exit)) (now (positions .exit))
         (unitByCodes (record { phase = phase; text = now (text .entry); actions = actionList (now (actions .entry)) }) (now (codes .entry))
         (ruleList (now (rules .entry))) (keep (eqb verdict 1) (index ∷ []))
@@ -160,7 +162,7 @@ fn members_controls(
     phases: &mut [u64; limits::TARGETS],
     positions: &mut [u64; limits::TARGETS],
 ) -> ControlCounts
-    ensures { λ r. ⌜ Turned h (now (starts .entry)) (now (ends .entry)) (now (phases .entry)) (now (positions .entry))
+    ensures { λ r. ⌜ Turned (unitAdds (now (codes .entry)) (ruleList (now (rules .entry))) (matchedIn (journalList (now (entries .entry))))) h (now (starts .entry)) (now (ends .entry)) (now (phases .entry)) (now (positions .entry))
         r (now (starts .exit)) (now (ends .exit)) (now (phases .exit)) (now (positions .exit))
         (unitByCodes (record { phase = phase; text = now (text .entry); actions = actionList (now (actions .entry)) }) (now (codes .entry))
         (ruleList (now (rules .entry))) (matchedIn (journalList (now (entries .entry))))
@@ -205,7 +207,7 @@ pub fn unit_controls(
     phases: &mut [u64; limits::TARGETS],
     positions: &mut [u64; limits::TARGETS],
 ) -> ControlCounts
-    ensures { λ r. ⌜ Turned h (now (starts .entry)) (now (ends .entry)) (now (phases .entry)) (now (positions .entry))
+    ensures { λ r. ⌜ Turned (unitAdds (now (codes .entry)) (ruleList (now (rules .entry))) (matchedIn (journalList (now (entries .entry))))) h (now (starts .entry)) (now (ends .entry)) (now (phases .entry)) (now (positions .entry))
         r (now (starts .exit)) (now (ends .exit)) (now (phases .exit)) (now (positions .exit))
         (unitByCodes (record { phase = phase; text = now (text .entry); actions = actionList (now (actions .entry)) }) (now (codes .entry))
         (ruleList (now (rules .entry))) (matchedIn (journalList (now (entries .entry))))

@@ -1,5 +1,7 @@
-// Questions to the controls: for a rule, for the removed targets, for the request's body. Each answers 3 where the controls are beyond their limits.
+// Questions to the controls: for a rule, for the removed targets, for the request's body. Each answers 3 where the controls are beyond their limits or
+// their ranges are not in the merged form.
 use crate::fields;
+use crate::ranges;
 use crate::state::Controls;
 use reading::AccessSetting;
 use reading::BodyAccess;
@@ -30,7 +32,9 @@ pub struct RemovedAnswer {
 pub fn engine_mode(c: Controls, ruleset_mode: RuleEngineMode) -> ModeAnswer
     ensures { λ r. ⌜ Answered (r .answer) (r .mode) (askMode «ruleset_mode» (controlsOf c)) ⌝ }
 {
-    if fields::is_beyond(c.ranges, c.targets) {
+    let ranges = c.ranges;
+    let targets = c.targets;
+    if fields::is_bad(&c.starts, &c.ends, ranges, targets) {
         return ModeAnswer {
             answer: 3,
             mode: ruleset_mode,
@@ -48,13 +52,13 @@ pub fn is_rule_removed(c: Controls, id: OptionU64) -> RemovedAnswer
 {
     let ranges = c.ranges;
     let targets = c.targets;
-    if fields::is_beyond(ranges, targets) {
+    if fields::is_bad(&c.starts, &c.ends, ranges, targets) {
         return RemovedAnswer {
             answer: 3,
             removed: false,
         };
     }
-    let removed = fields::is_removed(&c.starts, &c.ends, ranges, id);
+    let removed = ranges::is_removed(&c.starts, &c.ends, ranges, id);
     RemovedAnswer { answer: 0, removed }
 }
 
@@ -72,8 +76,9 @@ pub struct TargetAnswer {
 pub fn target_count(c: Controls) -> CountAnswer
     ensures { λ r. ⌜ Answered (r .answer) (r .count) (askTargetCount (controlsOf c)) ⌝ }
 {
+    let ranges = c.ranges;
     let targets = c.targets;
-    if fields::is_beyond(c.ranges, targets) {
+    if fields::is_bad(&c.starts, &c.ends, ranges, targets) {
         return CountAnswer {
             answer: 3,
             count: 0,
@@ -89,8 +94,9 @@ pub fn target_count(c: Controls) -> CountAnswer
 pub fn target_at(c: Controls, at: usize) -> TargetAnswer
     ensures { λ r. ⌜ Answered (r .answer) (r .target) (askTarget (controlsOf c) at) ⌝ }
 {
+    let ranges = c.ranges;
     let targets = c.targets;
-    if fields::is_beyond(c.ranges, targets) {
+    if fields::is_bad(&c.starts, &c.ends, ranges, targets) {
         return TargetAnswer {
             answer: 3,
             target: OptionPlace::None,
@@ -136,7 +142,9 @@ fn access_of(setting: AccessSetting) -> BodyAccess
 pub fn request_body_access(c: Controls) -> AccessAnswer
     ensures { λ r. ⌜ Answered (r .answer) (r .access) (askAccess (controlsOf c)) ⌝ }
 {
-    if fields::is_beyond(c.ranges, c.targets) {
+    let ranges = c.ranges;
+    let targets = c.targets;
+    if fields::is_bad(&c.starts, &c.ends, ranges, targets) {
         return AccessAnswer {
             answer: 3,
             access: BodyAccess::On,
@@ -152,7 +160,9 @@ pub fn request_body_access(c: Controls) -> AccessAnswer
 pub fn request_body_processor(c: Controls) -> ProcessorAnswer
     ensures { λ r. ⌜ Answered (r .answer) (r .processor) (askProcessor (controlsOf c)) ⌝ }
 {
-    if fields::is_beyond(c.ranges, c.targets) {
+    let ranges = c.ranges;
+    let targets = c.targets;
+    if fields::is_bad(&c.starts, &c.ends, ranges, targets) {
         return ProcessorAnswer {
             answer: 3,
             processor: ProcessorSetting::Unset,

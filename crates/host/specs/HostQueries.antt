@@ -4,7 +4,7 @@ use mathlib.Core.Bool.{Bool, cond, _&&_}
 use lib.Dec.{eqb, ltb}
 use Rattle.reading.specs.declared.OptionPlace.{OptionPlace}
 use Rattle.reading.specs.Numbers.{modeOfNumber, modeNumber, accessNumber, processorSettingNumber}
-use Rattle.reading.specs.Controls.{Asked, beyondLimits, askMode, askRemoved, askTargetCount, askTarget, askAccess, askProcessor}
+use Rattle.reading.specs.Controls.{Asked, badControls, askMode, askRemoved, askTargetCount, askTarget, askAccess, askProcessor}
 use Rattle.reading.specs.Controls as reading
 use Rattle.control.specs.ControlsStruct.{controlsOf}
 use Rattle.abi.specs.declared.host_controls.HostControls.{HostControls}
@@ -20,7 +20,7 @@ controlsIn c = controlsOf (controlsFromHost c)
 
 -- 01: "Questions to the controls give only 3". A host's record may hold a number that is not known: then 5, after 3 as everywhere
 unfoldable pub refusalIn : HostControls → Bool → ℕ
-refusalIn c known = cond (beyondLimits (controlsIn c)) 3 (cond known 0 5)
+refusalIn c known = cond (badControls (controlsIn c)) 3 (cond known 0 5)
 
 -- the answer to a question: the refusal and 0, or 0 and the number of the value that the question gives
 abbrev pub answered : {A : Type 0} → ℕ → (A → ℕ) → Asked A → HostQueryAnswer

@@ -1,5 +1,5 @@
-// Questions to the controls of a host's record, by number. Each answers 3 where the controls are beyond their limits, and then 5
-// where a number of the record is not known.
+// Questions to the controls of a host's record, by number. Each answers 3 where the controls are beyond their limits or their ranges are
+// not merged, and then 5 where a number of the record is not known.
 use abi::host_controls;
 use abi::host_controls::HostControls;
 use abi::values;
@@ -9,8 +9,6 @@ use control::fields;
 use control::queries;
 use reading::OptionPlace;
 ghost use mathlib.Core.Path.{_≡_};
-ghost use mathlib.Core.Bool.{cond, _||_};
-ghost use lib.Dec.{ltb};
 ghost use Rattle.abi.specs.HostControls.{knownControls};
 ghost use Rattle.host.specs.HostQueries.{refusalIn, hostTargetCount, hostTarget};
 ghost use mathlib.Core.Bool.{_&&_};
@@ -36,11 +34,13 @@ pub struct HostTarget {
     pub target: HostPlace,
 }
 
-// 3, 5 or 0, of controls with so many ranges and targets, and of whether every number is known.
-pub fn refusal(ranges: u64, targets: u64, known: bool) -> u64
-    ensures { λ r. ⌜ r ≡ cond (ltb 256 ranges || ltb 64 targets) 3 (cond known 0 5) ⌝ }
+// 3, 5 or 0, of a host's controls, and of whether every number is known.
+pub fn refusal(c: HostControls, known: bool) -> u64
+    ensures { λ r. ⌜ r ≡ refusalIn c known ⌝ }
 {
-    if fields::is_beyond(ranges as usize, targets as usize) {
+    let ranges = c.ranges as usize;
+    let targets = c.targets as usize;
+    if fields::is_bad(&c.starts, &c.ends, ranges, targets) {
         return 3;
     }
     if !known {
@@ -49,11 +49,11 @@ pub fn refusal(ranges: u64, targets: u64, known: bool) -> u64
     0
 }
 
-// The same of a host's controls.
+// The same where the controls are all that is given.
 pub fn refusal_of(c: HostControls) -> u64
     ensures { λ r. ⌜ r ≡ refusalIn c (knownControls c) ⌝ }
 {
-    refusal(c.ranges, c.targets, host_controls::is_known_controls(c))
+    refusal(c, host_controls::is_known_controls(c))
 }
 
 // A question that is refused with this number.
@@ -131,7 +131,7 @@ fn are_known(c: HostControls, id: HostNumber) -> bool
 pub extern "C" fn tivembo_is_rule_removed(c: HostControls, id: HostNumber) -> HostQueryAnswer
     ensures { λ r. ⌜ r ≡ hostRemoved c id ⌝ }
 {
-    let n = refusal(c.ranges, c.targets, are_known(c, id));
+    let n = refusal(c, are_known(c, id));
     if n != 0 {
         return refusal_answer(n);
     }

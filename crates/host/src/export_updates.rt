@@ -1,5 +1,5 @@
-// Additions to the controls of a host's record. Each is refused with 3 where the controls are beyond their limits, and then with 5
-// where a number of the record is not known.
+// Additions to the controls of a host's record. Each is refused with 3 where the controls are beyond their limits or their ranges are not
+// merged, and then with 5 where a number of the record is not known.
 use crate::export_queries;
 use abi::host_controls;
 use abi::host_controls::HostControls;
@@ -7,6 +7,7 @@ use reading::Place;
 use reading::RuleIdRange;
 ghost use Rattle.reading.specs.Controls.{withRange, withTarget, addRangeAnswer, addTargetAnswer};
 ghost use Rattle.host.specs.HostQueries.{controlsIn};
+ghost use mathlib.Core.Bool.{true, false};
 ghost use Rattle.host.specs.HostUpdates.{HostAdded};
 
 // The record after an addition, with its answer.
@@ -18,10 +19,11 @@ pub struct HostChangeAnswer {
     pub controls: HostControls,
 }
 
-// Adds a range of removed ids at the end. After 3 and an unknown number: 5 where the start is above the end, 8 where 256 are held.
+// Adds a range of removed ids, merged with those held, which may then be fewer. After 3 and an unknown number: 5 where the start is above
+// the end, 8 where 256 are held, also where it would merge.
 #[no_mangle]
 pub extern "C" fn tivembo_remove_range(c: HostControls, start: u64, end: u64) -> HostChangeAnswer
-    ensures { λ r. ⌜ HostAdded c r (addRangeAnswer (controlsIn c) (record { start = start; end = end }))
+    ensures { λ r. ⌜ HostAdded true c r (addRangeAnswer (controlsIn c) (record { start = start; end = end }))
         (withRange (controlsIn c) (record { start = start; end = end })) ⌝ }
 {
     let n = export_queries::refusal_of(c);
@@ -55,7 +57,7 @@ pub extern "C" fn tivembo_remove_target(
     phase: u64,
     position: u64,
 ) -> HostChangeAnswer
-    ensures { λ r. ⌜ HostAdded c r (addTargetAnswer (controlsIn c)) (withTarget (controlsIn c) (record { phase = phase; position = position })) ⌝ }
+    ensures { λ r. ⌜ HostAdded false c r (addTargetAnswer (controlsIn c)) (withTarget (controlsIn c) (record { phase = phase; position = position })) ⌝ }
 {
     let n = export_queries::refusal_of(c);
     if n != 0 {

@@ -1,6 +1,6 @@
 -- What the directives of a transaction have set (`TransactionControls`), as lists without a limit.
-use Prim.Native.Nat.{ℕ, zero, suc, _+_}
-use mathlib.Core.Bool.{Bool, true, false, cond, _&&_, _||_}
+use Prim.Native.Nat.{ℕ, zero, suc}
+use mathlib.Core.Bool.{Bool, true, false, not, cond, _&&_, _||_}
 use mathlib.Core.List.{List, [], _∷_, _++_}
 use lib.ListN.{length, getD}
 use lib.Dec.{ltb, leb, eqb}
@@ -15,7 +15,8 @@ use Rattle.reading.specs.declared.RuleIdRange.{RuleIdRange}
 use Rattle.reading.specs.declared.Place.{Place}
 use Rattle.reading.specs.declared.OptionU64.{OptionU64}
 use Rattle.reading.specs.declared.OptionPlace.{OptionPlace}
-use Rattle.reading.specs.Lists.{any, keep}
+use Rattle.reading.specs.Lists.{any}
+use Rattle.reading.specs.Ranges.{isMerged, addRange, addRanges}
 use Rattle.reading.specs.Directive.{Directive, ruleEngine, ruleRemoveById, ruleRemoveTargetById, requestBodyAccess, requestBodyProcessor, unsupported}
 
 -- 01: "Addresses, msg and targets are likewise kept as phase and action position."
@@ -47,10 +48,7 @@ withRanges c rs = record { mode = c .mode; ranges = rs; targets = c .targets; ac
 abbrev pub withTargets : Controls → List Place → Controls
 withTargets c ts = record { mode = c .mode; ranges = c .ranges; targets = ts; access = c .access; processor = c .processor }
 
--- 01: "Ranges and targets are added at the end."
-abbrev pub addRanges : List RuleIdRange → List RuleIdRange → List RuleIdRange
-addRanges held new = held ++ new
-
+-- 01: "Ranges and targets are added at the end."; since 02's A.6 that is so of targets alone
 abbrev pub addTarget : List Place → Place → List Place
 addTarget held at = held ++ (at ∷ [])
 
@@ -106,9 +104,10 @@ targetList count phases positions = pairList (λ phase position. record { phase 
 
 -- QUESTIONS AND SINGLE ADDITIONS
 
--- 01: refusal 3, "more than 256 ranges, more than 64 targets"
-unfoldable pub beyondLimits : Controls → Bool
-beyondLimits c = ltb mostRanges (length (c .ranges)) || ltb mostTargets (length (c .targets))
+-- refusal 3, of the controls. 01: "more than 256 ranges, more than 64 targets"; 02: "3 also meets ranges not in this form or with start
+-- above end"
+unfoldable pub badControls : Controls → Bool
+badControls c = ltb mostRanges (length (c .ranges)) || ltb mostTargets (length (c .targets)) || not (isMerged (c .ranges))
 
 -- what a question answers: 0 and the value, or 3 and what stands in for it
 pub record Asked (A : Type 0) : Type 0 where
@@ -117,7 +116,7 @@ pub record Asked (A : Type 0) : Type 0 where
 
 -- 01: "Questions to the controls give only 3"
 abbrev pub asked : {A : Type 0} → Controls → A → A → Asked A
-asked c value other = cond (beyondLimits c) (record { answer = 3; value = other }) (record { answer = 0; value = value })
+asked c value other = cond (badControls c) (record { answer = 3; value = other }) (record { answer = 0; value = value })
 
 -- the mode given the rule set's; whether an id, or none, is removed; how many targets there are, and which is the one at a
 -- place, if any; the body access; the body processor, if set
@@ -144,23 +143,17 @@ askAccess c = asked c (accessOf (c .access)) BodyAccess.On
 abbrev pub askProcessor : Controls → Asked ProcessorSetting
 askProcessor c = asked c (c .processor) ProcessorSetting.Unset
 
--- 01: "a range or target added singly gives 3, 5 (start above end), then 8 or 9"
+-- 01: "a range or target added singly gives 3, 5 (start above end), then 8 or 9"; 02: 8 counts the ranges held "plus one when added
+-- singly", whether or not the range would merge
 unfoldable pub addRangeAnswer : Controls → RuleIdRange → ℕ
-addRangeAnswer c r = cond (beyondLimits c) 3 (cond (ltb (r .end) (r .start)) 5 (cond (leb mostRanges (length (c .ranges))) 8 0))
+addRangeAnswer c r = cond (badControls c) 3 (cond (ltb (r .end) (r .start)) 5 (cond (leb mostRanges (length (c .ranges))) 8 0))
 
 unfoldable pub addTargetAnswer : Controls → ℕ
-addTargetAnswer c = cond (beyondLimits c) 3 (cond (leb mostTargets (length (c .targets))) 9 0)
-
--- the ranges of one directive added together: all of them, or none where they do not fit (refusals 3 and 8)
-unfoldable pub addRangesAnswer : Controls → List RuleIdRange → ℕ
-addRangesAnswer c rs = cond (beyondLimits c) 3 (cond (ltb mostRanges (length (c .ranges) + length rs)) 8 0)
+addTargetAnswer c = cond (badControls c) 3 (cond (leb mostTargets (length (c .targets))) 9 0)
 
 -- the controls after an addition: as before where the answer is not 0
 abbrev pub withRange : Controls → RuleIdRange → Controls
-withRange c r = withRanges c (addRanges (c .ranges) (keep (eqb (addRangeAnswer c r) 0) (r ∷ [])))
-
-abbrev pub withAllRanges : Controls → List RuleIdRange → Controls
-withAllRanges c rs = withRanges c (addRanges (c .ranges) (keep (eqb (addRangesAnswer c rs) 0) rs))
+withRange c r = withRanges c (cond (eqb (addRangeAnswer c r) 0) (addRange (c .ranges) r) (c .ranges))
 
 abbrev pub withTarget : Controls → Place → Controls
 withTarget c at = withTargets c (cond (eqb (addTargetAnswer c) 0) (addTarget (c .targets) at) (c .targets))

@@ -2,6 +2,7 @@ pub mod Lists
 pub mod Limits
 pub mod Text
 pub mod Directive
+pub mod Ranges
 pub mod Numbers
 pub mod Controls
 pub mod Actions

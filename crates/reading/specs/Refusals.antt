@@ -11,7 +11,7 @@ use Rattle.reading.specs.Lists.{any, total}
 use Rattle.reading.specs.Text.{largest}
 use Rattle.reading.specs.Directive.{Directive, isHigh, rangeCount, targetCount}
 use Rattle.reading.specs.Limits.{mostRules, mostActions, mostMarkers, mostBytes, mostRanges, mostTargets}
-use Rattle.reading.specs.Controls.{beyondLimits}
+use Rattle.reading.specs.Controls.{badControls}
 use Rattle.reading.specs.Actions.{actionsOf, controlsIn, directiveIn}
 use Rattle.reading.specs.Call.{Given, Call, ruleCount}
 
@@ -24,10 +24,11 @@ unfoldable pub refused2 : Call → Bool
 refused2 q =
     ltb mostRules (ruleCount (q .given)) || ltb mostActions (length (q .given .actions)) || ltb mostMarkers (length (q .given .markers)) || ltb mostBytes (length (q .given .text))
 
--- 3. "The transaction counts more than 256 ranges, more than 64 targets, or more entries than a lent list has."
+-- 3. "The transaction counts more than 256 ranges, more than 64 targets, or more entries than a lent list has."; 02: "3 also meets ranges
+-- not in this form or with start above end."
 unfoldable pub refused3 : Call → Bool
 refused3 q =
-    beyondLimits (q .transaction .controls)
+    badControls (q .transaction .controls)
     || ltb (length (q .lists .ids)) (q .transaction .ids)
     || ltb (length (q .lists .data-entries)) (q .transaction .data-entries)
 
@@ -90,7 +91,8 @@ refused7 q =
 unfoldable pub ruleTotal : Given → (Directive → ℕ) → Rule → ℕ
 ruleTotal g counted r = total (λ p. counted (directiveIn (g .text) p)) (controlsIn (actionsOf (g .actions) r))
 
--- 8. "Held ranges plus those of all supported ruleRemoveById actions, counted rule by rule, exceed 256."
+-- 8. "Held ranges plus those of all supported ruleRemoveById actions, counted rule by rule, exceed 256."; 02: "8 counts the merged ranges
+-- held plus the phase's own": these as written, also where they would merge
 unfoldable pub refused8 : Call → Bool
 refused8 q = ltb mostRanges (length (q .transaction .controls .ranges) + total (ruleTotal (q .given) rangeCount) (q .given .rules))
 

@@ -5,6 +5,7 @@ use mathlib.Core.Bool.{Bool, true, false, cond}
 use mathlib.Core.List.{List, [], _∷_, _++_}
 use lib.Dec.{eqb}
 use Rattle.reading.specs.declared.OptionU64.{OptionU64}
+use Rattle.reading.specs.declared.RuleIdRange.{RuleIdRange}
 use Rattle.reading.specs.declared.OptionPlace.{OptionPlace}
 use Rattle.reading.specs.declared.DataEntry.{DataEntry}
 use Rattle.reading.specs.declared.DisruptiveOutcome.{DisruptiveOutcome}
@@ -12,6 +13,7 @@ use Rattle.reading.specs.declared.FlowOutcome.{FlowOutcome}
 use Rattle.reading.specs.declared.Intervention.{Intervention}
 use Rattle.reading.specs.Lists.{gather, keep}
 use Rattle.reading.specs.Numbers.{listOf, presentNumber, numberOrZero}
+use Rattle.reading.specs.Directive.{rangesOf}
 use Rattle.reading.specs.Controls.{Controls, applied}
 use Rattle.reading.specs.Actions.{Placed, controlsIn, directiveIn, lastDisruptive, lastFlow, metadataOf, lastStatus}
 use Rattle.reading.specs.Call.{Given, idAt, outcomeAt, actionsAt}
@@ -62,6 +64,13 @@ ruleControls g m c = actionControls g (controlsIn (actionsAt g m)) c
 abbrev pub unitControls : Given → List ℕ → Controls → Controls
 unitControls g [] c = c
 unitControls g (m ∷ ms) c = unitControls g ms (ruleControls g m c)
+
+-- the ranges that a unit's directives add, as they are written, in order: 02, "the plain list of all ranges accepted"
+unfoldable pub memberRanges : Given → ℕ → List RuleIdRange
+memberRanges g m = gather (λ p. rangesOf (directiveIn (g .text) p)) (controlsIn (actionsAt g m))
+
+abbrev pub unitRanges : Given → List ℕ → List RuleIdRange
+unitRanges g unit = gather (memberRanges g) unit
 
 -- 01: "Flow, disruptive action and metadata are the starter's."
 unfoldable pub unitFlow : Given → List ℕ → FlowOutcome

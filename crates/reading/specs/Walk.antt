@@ -8,6 +8,7 @@ use Rattle.reading.specs.declared.Verdict.{Verdict}
 use Rattle.reading.specs.declared.Rule.{Rule}
 use Rattle.reading.specs.declared.Action.{Action}
 use Rattle.reading.specs.declared.OptionU64.{OptionU64}
+use Rattle.reading.specs.declared.RuleIdRange.{RuleIdRange}
 use Rattle.reading.specs.declared.DisruptiveOutcome.{DisruptiveOutcome}
 use Rattle.reading.specs.declared.FlowOutcome.{FlowOutcome}
 use Rattle.reading.specs.declared.Intervention.{Intervention}
@@ -21,7 +22,7 @@ use Rattle.reading.specs.Controls.{Controls, isRemoved, isOn, isOff}
 use Rattle.reading.specs.Markers.{markerPosition}
 use Rattle.reading.specs.Reading.{jumps}
 use Rattle.reading.specs.Call.{Given, Transaction, ruleCount, isLink, idAt, outcomeAt, modeUnder}
-use Rattle.reading.specs.Units.{unitIds, unitData, unitControls, unitFlow, unitDisruptive, unitIntervention, isAllow, isStopping}
+use Rattle.reading.specs.Units.{unitIds, unitData, unitControls, unitRanges, unitFlow, unitDisruptive, unitIntervention, isAllow, isStopping}
 
 -- 01: "it keeps the next index, the open chain's members and the controls so far". No members: no chain is open.
 pub record State : Type 0 where
@@ -193,6 +194,10 @@ dataOf g vs = gather (unitData g) (closedIn vs)
 abbrev pub controlsAfter : Controls → List Visit → Controls
 controlsAfter c [] = c
 controlsAfter c (v ∷ vs) = controlsAfter (v .after .controls) vs
+
+-- the ranges that the closed units add, as they are written
+abbrev pub rangesBy : Given → List Visit → List RuleIdRange
+rangesBy g vs = gather (unitRanges g) (closedIn vs)
 
 abbrev pub givesAllow : Ending → Bool
 givesAllow goesOn = false

@@ -4,6 +4,7 @@ use mathlib.Core.Path.{_≡_}
 use mathlib.Core.Bool.{cond}
 use lib.ListN.{length}
 use Rattle.reading.specs.declared.CallSettings.{CallSettings}
+use Rattle.reading.specs.Controls.{badControls}
 use Rattle.reading.specs.Call.{Call, Transaction, Lists}
 use Rattle.reading.specs.Refusals.{refused1, refused2, refused3, refused4, refused5, refused6, refused7}
 use Rattle.refusals.specs.declared.first.Counts.{Counts}
@@ -12,8 +13,7 @@ use Rattle.refusals.specs.declared.first.Room.{Room}
 
 -- a transaction of these sizes, with the lists that it counts
 pub record Sized (t : Transaction) (lists : Lists) (sizes : Sizes) : Type 0 where
-  pub ranges : length (t .controls .ranges) ≡ sizes .ranges
-  pub targets : length (t .controls .targets) ≡ sizes .targets
+  pub controls : badControls (t .controls) ≡ sizes .«bad_controls»
   pub ids-used : t .ids ≡ sizes .«ids_used»
   pub entries-used : t .data-entries ≡ sizes .«entries_used»
   pub ids : length (lists .ids) ≡ sizes .ids

@@ -2,7 +2,6 @@
 use crate::action_checks;
 use crate::marker_checks;
 use crate::rule_checks;
-use control::fields;
 use reading::CallSettings;
 use reading::limits;
 use reading::widths;
@@ -13,7 +12,6 @@ ghost use Prim.Native.Nat.{_+_, _/_};
 ghost use lib.ListN.{length};
 ghost use lib.Dec.{ltb};
 ghost use Rattle.reading.specs.Lists.{any};
-ghost use Rattle.reading.specs.Limits.{mostRanges, mostTargets};
 ghost use Rattle.reading.specs.Records.{ruleList, actionList, markerList, givenOf};
 ghost use Rattle.reading.specs.Refusals.{badRule, badAction, badMarker, badOutcome};
 ghost use Rattle.reading.specs.Call.{Call, Transaction, Lists};
@@ -28,10 +26,9 @@ pub struct Counts {
     pub outcomes: usize,
 }
 
-// What the transaction counts, and how many entries the lists have that it counts.
+// What the transaction counts, and how many entries the lists have that it counts. Whether refusal 3 meets the controls is known by then.
 pub struct Sizes {
-    pub ranges: usize,
-    pub targets: usize,
+    pub bad_controls: bool,
     pub ids_used: usize,
     pub entries_used: usize,
     pub ids: usize,
@@ -72,12 +69,11 @@ fn is_too_large(counts: Counts) -> bool
     limits::TEXT_BYTES < counts.bytes
 }
 
-// Refusal 3: the transaction counts more than its limits, or more than a lent list has.
+// Refusal 3: the controls are beyond their limits or hold ranges that are not merged, or the transaction counts more than a lent list has.
 fn is_miscounted(sizes: Sizes) -> bool
-    ensures { λ r. ⌜ r ≡ ((ltb mostRanges (sizes .ranges) || ltb mostTargets (sizes .targets))
-        || ltb (sizes .ids) (sizes .«ids_used») || ltb (sizes .entries) (sizes .«entries_used»)) ⌝ }
+    ensures { λ r. ⌜ r ≡ (sizes .«bad_controls» || ltb (sizes .ids) (sizes .«ids_used») || ltb (sizes .entries) (sizes .«entries_used»)) ⌝ }
 {
-    if fields::is_beyond(sizes.ranges, sizes.targets) {
+    if sizes.bad_controls {
         return true;
     }
     if sizes.ids < sizes.ids_used {
@@ -86,7 +82,7 @@ fn is_miscounted(sizes: Sizes) -> bool
     sizes.entries < sizes.entries_used
 }
 
-// The number of the first refusal of 1 to 4 that applies, else 0. These look at numbers alone and at no record, so the answer is
+// The number of the first refusal of 1 to 4 that applies, else 0. These look at the controls, at numbers and at no record, so the answer is
 // the same whatever the lists hold.
 pub fn early_refusal(call: CallSettings, counts: Counts, sizes: Sizes) -> u64
     ensures { λ r. ⌜ ((q : Call) → Counted q call counts sizes → r ≡ firstOfFour q) ⌝ }

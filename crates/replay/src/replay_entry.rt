@@ -94,7 +94,7 @@ fn entry_settings(list: &[u64]) -> Settings {
     }
 }
 
-// The ranges in the controls' arrays, as they are: an addition would refuse one that starts above its end.
+// The ranges in the controls' arrays, as they are recorded: those of an accepted call have the merged form.
 fn with_ranges(controls: Controls, ranges: &[u64]) -> Controls {
     let n = ranges.len() / 2;
     let mut c = controls;

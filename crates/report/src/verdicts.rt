@@ -40,7 +40,7 @@ fn count_verdicts(entries: &[u64], unsupported: UnsupportedAt) -> Report
     ensures { λ r. ⌜ r ≡ reportWith (journalList (now (entries .entry))) unsupported ⌝ }
 {
     let n = entries.len() / widths::JOURNAL_ENTRY;
-    let mut missed = 0u64;
+    let mut others = 0u64;
     let mut matched = 0u64;
     let mut removed = 0u64;
     let mut errors = 0u64;
@@ -48,16 +48,16 @@ fn count_verdicts(entries: &[u64], unsupported: UnsupportedAt) -> Report
     while k < n {
         let verdict = entries[widths::JOURNAL_ENTRY * k + 1];
         k += 1;
-        if verdict == 0 { // most rules of a phase are missed, so the others' counts are left alone at once
-            missed += 1;
+        if verdict == 0 { // most rules of a phase are missed: no count is touched for them
             continue;
         }
+        others += 1;
         matched += one_if(verdict, 1);
         removed += one_if(verdict, 2);
         errors += one_if(verdict, 3);
     }
     Report {
-        missed,
+        missed: n as u64 - others,
         matched,
         removed,
         errors,

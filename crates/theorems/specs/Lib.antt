@@ -1,8 +1,11 @@
+pub mod MergedRanges
+pub mod UniqueRanges
 pub mod Replayed
 pub mod LastUnit
 pub mod Rising
 pub mod WithinLimits
 pub mod Answers
+pub mod WalkRanges
 pub mod Reported
 pub mod Reasons
 pub mod Demands

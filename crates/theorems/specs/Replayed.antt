@@ -40,7 +40,7 @@ module _ (q : Given) (st : State) where
   closed-is Verdict.Error l e = refl
 
   -- the controls after a visit are those of the unit that it closes
-  controls-are : (v : Verdict) (l : Bool) → visitBy q st v l .after .controls ≡ unitsControls q (visitBy q st v l .closed) (st .controls)
+  pub controls-are : (v : Verdict) (l : Bool) → visitBy q st v l .after .controls ≡ unitsControls q (visitBy q st v l .closed) (st .controls)
   controls-are Verdict.Missed l = refl
   controls-are Verdict.Matched true = refl
   controls-are Verdict.Matched false = refl
@@ -169,7 +169,7 @@ seen q st v l e =
       stop = stop-is q st v l;
     }
 
-replays : (k : ℕ) (q : Given) (st : State) → Replayed q (st .members) (st .controls) (walk k q st)
+pub replays : (k : ℕ) (q : Given) (st : State) → Replayed q (st .members) (st .controls) (walk k q st)
 unfolding walk visitAt
 replays zero q st = none-replayed q (st .members) (st .controls)
 replays (suc k) q st =

@@ -24,7 +24,8 @@ use Rattle.reading.specs.Replay.{unitsControls}
 use Rattle.reading.specs.Refusals.{refusalOf, refused1, refused2, refused3, refused4, refused5, refused6, refused7, refused8, refused9, ruleTotal}
 use Rattle.reading.specs.Outcome.{visitsOf, outcomeOf, atFreeEnd}
 use Rattle.lists.proofs.Tests.{or-false}
-use Rattle.theorems.specs.Replayed.{walk-replayed}
+use Rattle.theorems.specs.MergedRanges.{length-all-added}
+use Rattle.theorems.specs.Replayed.{replays, walk-replayed}
 use Rattle.theorems.specs.Rising.{goes-ahead, visited-within}
 
 -- ONE LAW FOR EVERY WEIGHT: closed units weigh no more than the rules
@@ -137,51 +138,71 @@ ahead-ones (suc k) i = omega (arith, ahead-ones k (suc i))
 
 -- WHAT UNITS GIVE, COUNTED
 
--- a count of the controls that each directive raises by its own: the ranges, and the targets
-record Counted (count : Controls → ℕ) (given : Directive → ℕ) : Type 0 where
-  by-one : (c : Controls) (at : Place) (d : Directive) → count (applied c at d) ≡ count c + given d
+-- a count of the controls that each directive raises by no more than its own: the ranges, of which some may merge, and the targets
+pub record Counted (count : Controls → ℕ) (given : Directive → ℕ) : Type 0 where
+  pub by-one : (c : Controls) (at : Place) (d : Directive) → count (applied c at d) ≤ count c + given d
 
-ranges-counted : Counted (λ c. length (c .ranges)) rangeCount
+pub ranges-counted : Counted (λ c. length (c .ranges)) rangeCount
 ranges-counted = record { by-one = one }
   where
-    one : (c : Controls) (at : Place) (d : Directive) → length (applied c at d .ranges) ≡ length (c .ranges) + rangeCount d
+    one : (c : Controls) (at : Place) (d : Directive) → length (applied c at d .ranges) ≤ length (c .ranges) + rangeCount d
     one c at (ruleEngine m) = omega arith
-    one c at (ruleRemoveById rs) = length-append (c .ranges) rs
+    one c at (ruleRemoveById rs) = length-all-added (c .ranges) rs
     one c at (ruleRemoveTargetById id target) = omega arith
     one c at (requestBodyAccess a) = omega arith
     one c at (requestBodyProcessor p) = omega arith
     one c at (unsupported r) = omega arith
 
-targets-counted : Counted (λ c. length (c .targets)) targetCount
+pub targets-counted : Counted (λ c. length (c .targets)) targetCount
 targets-counted = record { by-one = one }
   where
-    one : (c : Controls) (at : Place) (d : Directive) → length (applied c at d .targets) ≡ length (c .targets) + targetCount d
+    one : (c : Controls) (at : Place) (d : Directive) → length (applied c at d .targets) ≤ length (c .targets) + targetCount d
     one c at (ruleEngine m) = omega arith
     one c at (ruleRemoveById rs) = omega arith
-    one c at (ruleRemoveTargetById id target) = length-append (c .targets) (at ∷ [])
+    one c at (ruleRemoveTargetById id target) = omega (arith, length-append (c .targets) (at ∷ []))
     one c at (requestBodyAccess a) = omega arith
     one c at (requestBodyProcessor p) = omega arith
     one c at (unsupported r) = omega arith
 
+-- what so many of all members' directives in units give, each counted as it is written
+abbrev pub unitsGive : Given → (Directive → ℕ) → List (List ℕ) → ℕ
+unitsGive q given us = total (total (λ m. ruleTotal q given (getD (q .rules) m noRule))) us
+
 module _ (q : Given) (count : Controls → ℕ) (given : Directive → ℕ) (counted : Counted count given) where
   actions-count : (ps : List Placed) (c : Controls)
-      → count (actionControls q ps c) ≡ count c + total (λ p. given (directiveIn (q .text) p)) ps
+      → count (actionControls q ps c) ≤ count c + total (λ p. given (directiveIn (q .text) p)) ps
   actions-count [] c = omega arith
   actions-count (p ∷ ps) c =
       let at : Place = record { phase = q .settings .phase; position = p .position } in
       let d : Directive = directiveIn (q .text) p in
       omega (arith, actions-count ps (applied c at d), counted .by-one c at d)
 
-  unit-count : (u : List ℕ) (c : Controls) → count (unitControls q u c) ≡ count c + total (λ m. ruleTotal q given (getD (q .rules) m noRule)) u
+  pub member-count : (m : ℕ) (c : Controls) → count (ruleControls q m c) ≤ count c + ruleTotal q given (getD (q .rules) m noRule)
   unfolding ruleControls actionsAt ruleAt ruleTotal
+  member-count m c = actions-count (controlsIn (actionsAt q m)) c
+
+  unit-count : (u : List ℕ) (c : Controls) → count (unitControls q u c) ≤ count c + total (λ m. ruleTotal q given (getD (q .rules) m noRule)) u
   unit-count [] c = omega arith
-  unit-count (m ∷ ms) c =
-      omega (arith, unit-count ms (ruleControls q m c), actions-count (controlsIn (actionsAt q m)) c)
+  unit-count (m ∷ ms) c = omega (arith, unit-count ms (ruleControls q m c), member-count m c)
 
   units-count : (us : List (List ℕ)) (c : Controls)
-      → count (unitsControls q us c) ≡ count c + total (total (λ m. ruleTotal q given (getD (q .rules) m noRule))) us
+      → count (unitsControls q us c) ≤ count c + unitsGive q given us
   units-count [] c = omega arith
   units-count (u ∷ us) c = omega (arith, units-count us (unitControls q u c), unit-count u c)
+
+  -- a visit: at most what the unit gives that it closes
+  visit-count : (st : State) (v : Verdict) (l : Bool) → count (visitBy q st v l .after .controls) ≤ count (st .controls) + unitsGive q given (visitBy q st v l .closed)
+  visit-count st Verdict.Missed l = omega arith
+  visit-count st Verdict.Matched true = omega arith
+  visit-count st Verdict.Matched false = omega (arith, unit-count (st .members ++ (st .next ∷ [])) (st .controls))
+  visit-count st Verdict.Removed true = omega arith
+  visit-count st Verdict.Removed false = omega arith
+  visit-count st Verdict.Error l = omega arith
+
+  -- the closed units of the walk give no more than all rules
+  walk-gives : (t : Transaction) → unitsGive q given (closedIn (walkOf q t)) ≤ total (ruleTotal q given) (q .rules)
+  walk-gives t =
+      omega (arith, closed-weigh (λ m. ruleTotal q given (getD (q .rules) m noRule)) q t, ahead-rules (ruleTotal q given) (q .rules))
 
   -- the controls after the whole walk count at most those held and those of all rules
   walk-count : (t : Transaction) → count (controlsAfter (t .controls) (walkOf q t)) ≤ count (t .controls) + total (ruleTotal q given) (q .rules)
@@ -190,8 +211,7 @@ module _ (q : Given) (count : Controls → ℕ) (given : Directive → ℕ) (cou
         arith,
         ap count (walk-replayed q t .controls),
         units-count (closedIn (walkOf q t)) (t .controls),
-        closed-weigh (λ m. ruleTotal q given (getD (q .rules) m noRule)) q t,
-        ahead-rules (ruleTotal q given) (q .rules),
+        walk-gives t,
       )
 
 -- at most one id a unit, one unit a visit, and one visit a rule
@@ -337,6 +357,38 @@ not-eighth q e = ltb-false 256 (length (q .transaction .controls .ranges) + tota
 not-ninth : (q : Call) → refused9 q ≡ false → length (q .transaction .controls .targets) + total (ruleTotal (q .given) targetCount) (q .given .rules) ≤ 64
 unfolding refused9
 not-ninth q e = ltb-false 64 (length (q .transaction .controls .targets) + total (ruleTotal (q .given) targetCount) (q .given .rules)) e
+
+-- HELD AND GIVEN: what is held at entry and what the closed units of a walk give, up to any visit
+pub visit-ranges : (q : Given) (st : State) (v : Verdict) (l : Bool)
+    → length (visitBy q st v l .after .controls .ranges) ≤ length (st .controls .ranges) + unitsGive q rangeCount (visitBy q st v l .closed)
+visit-ranges q = visit-count q (λ c. length (c .ranges)) rangeCount ranges-counted
+
+pub visit-targets : (q : Given) (st : State) (v : Verdict) (l : Bool)
+    → length (visitBy q st v l .after .controls .targets) ≤ length (st .controls .targets) + unitsGive q targetCount (visitBy q st v l .closed)
+visit-targets q = visit-count q (λ c. length (c .targets)) targetCount targets-counted
+
+-- the same of a walk from a state on
+pub walk-ranges : (k : ℕ) (q : Given) (st : State)
+    → length (controlsAfter (st .controls) (walk k q st) .ranges) ≤ length (st .controls .ranges) + unitsGive q rangeCount (closedIn (walk k q st))
+walk-ranges k q st =
+    omega (
+      arith,
+      ap (λ (c : Controls). length (c .ranges)) (replays k q st .controls),
+      units-count q (λ c. length (c .ranges)) rangeCount ranges-counted (closedIn (walk k q st)) (st .controls),
+    )
+
+pub give-append : (q : Given) (given : Directive → ℕ) (us vs : List (List ℕ)) → unitsGive q given (us ++ vs) ≡ unitsGive q given us + unitsGive q given vs
+give-append q given = total-append (total (λ m. ruleTotal q given (getD (q .rules) m noRule)))
+
+pub ranges-given : (q : Call) → refusalOf q ≡ 0
+    → length (q .transaction .controls .ranges) + unitsGive (q .given) rangeCount (closedIn (walkOf (q .given) (q .transaction))) ≤ 256
+ranges-given q e =
+    omega (arith, walk-gives (q .given) (λ c. length (c .ranges)) rangeCount ranges-counted (q .transaction), not-eighth q (passed q e .eighth))
+
+pub targets-given : (q : Call) → refusalOf q ≡ 0
+    → length (q .transaction .controls .targets) + unitsGive (q .given) targetCount (closedIn (walkOf (q .given) (q .transaction))) ≤ 64
+targets-given q e =
+    omega (arith, walk-gives (q .given) (λ c. length (c .targets)) targetCount targets-counted (q .transaction), not-ninth q (passed q e .ninth))
 
 -- the free entries, where refusal 7 does not apply
 pub record Free (q : Call) : Type 0 where

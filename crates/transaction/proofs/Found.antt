@@ -18,8 +18,11 @@ use Rattle.reading.specs.Controls.{Controls, isRemoved, rangeList, modeOr}
 use Rattle.reading.specs.Call.{Given, ruleCount, ruleAt, idAt, outcomeAt, recordId, isLink, noRule, modeUnder}
 use Rattle.reading.specs.Units.{unitControls, unitFlow}
 use Rattle.reading.specs.Walk.{State, Visit, visitBy, visitAt, verdictAt, verdictBy, afterChain, afterFlow, entryOf, chainRest}
+use Rattle.theorems.specs.MergedRanges.{Merged}
 use Rattle.control.specs.declared.state.Controls as held
 use Rattle.control.specs.ControlsStruct.{controlsOf}
+use Rattle.control.specs.Halving.{foundByHalving}
+use Rattle.control.proofs.ranges.HalvingLaws.{halving-finds}
 use Rattle.unit.specs.declared.visit.VisitOutcome.{VisitOutcome}
 use Rattle.unit.specs.declared.visit.State as code
 use Rattle.unit.specs.VisitRule.{entryBy, passed, foundBy, foundAt}
@@ -28,13 +31,15 @@ use Rattle.transaction.proofs.Turns.{true-false}
 false-true : false ≡ true → ⊥
 false-true e = true-false (sym e)
 
--- what the code finds of a rule is the definition's verdict, as long as all held ranges are in the arrays
-found-law : (q : Given) (c : held.Controls) (i : ℕ) (found : Verdict) → c .ranges ≤ 256
-    → found ≡ cond (isRemoved (rangeList (min (c .ranges) 256) (c .starts) (c .ends)) (recordId (getD (q .rules) i noRule)))
+-- what the code finds of a rule is the definition's verdict, as long as all held ranges are in the arrays and have the merged form
+found-law : (q : Given) (c : held.Controls) (i : ℕ) (found : Verdict) → c .ranges ≤ 256 → Merged (controlsOf c .ranges)
+    → found ≡ cond (foundByHalving (min (c .ranges) 256) (c .starts) (c .ends) (recordId (getD (q .rules) i noRule)))
     Verdict.Removed (verdictBy (getD (q .outcomes) i 0))
     → found ≡ verdictAt q (controlsOf c) i
 unfolding verdictAt idAt ruleAt outcomeAt controlsOf
-found-law q c i found h e = let z : min (c .ranges) 256 ≡ c .ranges = omega arith in rw z at e
+found-law q c i found h f e =
+    let z : min (c .ranges) 256 ≡ c .ranges = omega arith in
+    rw (z, halving-finds (c .ranges) (c .starts) (c .ends) (recordId (getD (q .rules) i noRule)) h f) at e
 
 -- a visit has what was found in it
 found-by : (past rest : ℕ) (chained : Bool) (first : ℕ) (found : Verdict) (link : Bool)
@@ -58,20 +63,20 @@ visit-verdict rules s visits found w e = rw e (go (ltb (s .next) (length rules))
     go false = refl
 
 -- the same of a visit under the ranges of a struct
-module _ (q : Given) (c : held.Controls) (s : code.State) (visits : ℕ) (few : c .ranges ≤ 256) (w : VisitOutcome)
+module _ (q : Given) (c : held.Controls) (s : code.State) (visits : ℕ) (few : c .ranges ≤ 256) (form : Merged (controlsOf c .ranges)) (w : VisitOutcome)
     (w-is : w ≡ foundAt (q .rules) s visits
-    (cond (isRemoved (rangeList (min (c .ranges) 256) (c .starts) (c .ends)) (recordId (getD (q .rules) (s .next) noRule)))
+    (cond (foundByHalving (min (c .ranges) 256) (c .starts) (c .ends) (recordId (getD (q .rules) (s .next) noRule)))
     Verdict.Removed (verdictBy (getD (q .outcomes) (s .next) 0)))) where
   abbrev byRanges : Verdict
   byRanges =
-      cond (isRemoved (rangeList (min (c .ranges) 256) (c .starts) (c .ends)) (recordId (getD (q .rules) (s .next) noRule)))
+      cond (foundByHalving (min (c .ranges) 256) (c .starts) (c .ends) (recordId (getD (q .rules) (s .next) noRule)))
       Verdict.Removed (verdictBy (getD (q .outcomes) (s .next) 0))
 
   verdict-now : w .verdict ≡ byRanges
   verdict-now = visit-verdict (q .rules) s visits byRanges w w-is
 
   pub verdict-found : w .verdict ≡ verdictAt q (controlsOf c) (s .next)
-  verdict-found = found-law q c (s .next) (w .verdict) few verdict-now
+  verdict-found = found-law q c (s .next) (w .verdict) few form verdict-now
 
   pub visit-found : w ≡ foundAt (q .rules) s visits (w .verdict)
   visit-found = w-is ∙ ap (foundAt (q .rules) s visits) (sym verdict-now)

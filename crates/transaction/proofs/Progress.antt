@@ -1,7 +1,7 @@
 -- What the loop of `walk_rules` has written after some visits, how far the walk then is, and what one turn adds. Assumes nothing.
 use Prim.Native.Nat.{ℕ, _+_, _-_, _*_, _≤_}
 use mathlib.Core.Path.{_≡_, refl, sym, ap, _∙_}
-use mathlib.Core.Bool.{false, cond}
+use mathlib.Core.Bool.{Bool, false, cond}
 use mathlib.Core.List.{List, [], _++_, append-assoc, append-nil}
 use native.Mathlib.Omega.{arith}
 use native.Mathlib.Nat.{sub-zero}
@@ -10,15 +10,17 @@ use lib.Seq.{length-take-le, drop-drop}
 use Rattle.reading.specs.declared.OptionIntervention.{OptionIntervention}
 use Rattle.reading.specs.Records.{dataWords, journalWords, matchedIn}
 use Rattle.reading.specs.Controls.{isOff}
-use Rattle.reading.specs.Controls as reading
 use Rattle.reading.specs.Call.{Given, ruleCount, modeUnder}
-use Rattle.reading.specs.Walk.{Visit, journalOf, idsOf, dataOf, controlsAfter, allowedBy}
+use Rattle.reading.specs.Directive.{rangeCount, targetCount}
+use Rattle.reading.specs.Walk.{Visit, journalOf, closedIn, idsOf, dataOf, controlsAfter, allowedBy}
 use Rattle.reading.specs.Walk.{interventionBy, answerBy, errorIndexBy, walk}
-use Rattle.theorems.specs.WithinLimits.{length-journal}
+use Rattle.theorems.specs.MergedRanges.{Merged}
+use Rattle.theorems.specs.WithinLimits.{length-journal, unitsGive}
 use Rattle.control.specs.declared.state.Controls.{Controls}
 use Rattle.control.specs.ControlsStruct.{controlsOf, Became}
-use Rattle.control.proofs.Chained.{became-same, became-ranges}
-use Rattle.apply.proofs.run.StepLaws.{Grown}
+use Rattle.control.proofs.Chained.{became-same}
+use Rattle.control.proofs.state.HeldLaws.{ranges-length}
+use Rattle.apply.specs.AddedRanges.{addsRanges}
 use Rattle.unit.proofs.members.WordLaws.{length-journal-words, length-data-words}
 use Rattle.unit.specs.declared.visit.State.{State}
 use Rattle.unit.specs.VisitRule.{entryBy}
@@ -26,8 +28,8 @@ use Rattle.intervention.specs.declared.decide.Ending.{Ending}
 use Rattle.transaction.specs.declared.types.Transaction.{Transaction}
 use Rattle.transaction.specs.WalkRules.{walkLists, visitsFrom, Ready, isErrs, isAllows, endedBy, Walked}
 use Rattle.transaction.proofs.Turns.{walk-end, ids-append, data-append}
-use Rattle.transaction.proofs.Turns.{controls-append, Going, answer-after, error-after}
-use Rattle.transaction.proofs.Turns.{allowed-after, intervention-after, walk-grows}
+use Rattle.transaction.proofs.Turns.{Going, answer-after, error-after}
+use Rattle.transaction.proofs.Turns.{allowed-after, intervention-after, given-append}
 use Rattle.transaction.proofs.Parts.{whole-length}
 
 -- what the three lists hold after the visits `done`
@@ -43,7 +45,7 @@ pub record Written (q : Given) (t : Transaction) (ids₀ entries₀ journal₀ :
 
 -- how far the walk is
 pub record Sofar (q : Given) (t : Transaction) (ids₀ entries₀ journal₀ : List ℕ) (ids entries journal : List ℕ) (c : Controls)
-    (s : State)
+    (added : Bool) (s : State)
     (visits listed written : ℕ) : Type 0 where
   -- the visits so far, and the members of the open chain
   pub done : List Visit
@@ -52,7 +54,13 @@ pub record Sofar (q : Given) (t : Transaction) (ids₀ entries₀ journal₀ : L
       (record { next = s .next; members = members; controls = controlsOf c })
   pub going : Going done
   pub lists : Written q t ids₀ entries₀ journal₀ done ids entries journal visits listed written
-  pub controls : Became (t .controls) c (controlsAfter (controlsOf (t .controls)) done)
+  pub controls : Became (addsRanges q done) (t .controls) c (controlsAfter (controlsOf (t .controls)) done)
+  -- whether ranges were added
+  pub added-is : added ≡ addsRanges q done
+  -- at most what was held and what the closed units gave, and in the merged form
+  pub held-ranges : length (controlsOf c .ranges) ≤ length (controlsOf (t .controls) .ranges) + unitsGive q rangeCount (closedIn done)
+  pub held-targets : length (controlsOf c .targets) ≤ length (controlsOf (t .controls) .targets) + unitsGive q targetCount (closedIn done)
+  pub merged : Merged (controlsOf c .ranges)
   pub not-off : isOff (modeUnder q (controlsOf c)) ≡ false
   pub agree : matchedIn (drop (entryBy s visits) (journalOf done)) ≡ members
   pub entry : entryBy s visits ≤ visits
@@ -60,7 +68,7 @@ pub record Sofar (q : Given) (t : Transaction) (ids₀ entries₀ journal₀ : L
 
 pub sofar-none : (q : Given) (t : Transaction) (codes ids entries journal : List ℕ)
     → Ready q t codes (walkLists ids entries journal)
-    → Sofar q t ids entries journal ids entries journal (t .controls) (record { next = 0; chained = false; first = 0 }) 0 (t .ids)
+    → Sofar q t ids entries journal ids entries journal (t .controls) false (record { next = 0; chained = false; first = 0 }) 0 (t .ids)
     (t .entries)
 sofar-none q t codes ids entries journal ready =
     record {
@@ -77,6 +85,10 @@ sofar-none q t codes ids entries journal ready =
         written-is = omega arith;
       };
       controls = became-same (t .controls);
+      added-is = refl;
+      held-ranges = omega arith;
+      held-targets = omega arith;
+      merged = ready .merged;
       not-off = ready .not-off;
       agree = refl;
       entry = omega arith;
@@ -152,8 +164,8 @@ module _ (q : Given) (t : Transaction) (codes ids₀ entries₀ journal₀ : Lis
 
 -- the lists at the head of a turn, and the ranges that are held
 module _ (q : Given) (t : Transaction) (codes ids₀ entries₀ journal₀ : List ℕ) (ready : Ready q t codes (walkLists ids₀ entries₀ journal₀))
-    (ids entries journal : List ℕ) (c : Controls) (s : State) (visits listed written : ℕ)
-    (so : Sofar q t ids₀ entries₀ journal₀ ids entries journal c s visits listed written) where
+    (ids entries journal : List ℕ) (c : Controls) (added : Bool) (s : State) (visits listed written : ℕ)
+    (so : Sofar q t ids₀ entries₀ journal₀ ids entries journal c added s visits listed written) where
   abbrev left : List Visit
   left = walk (ruleCount q - visits) q (record { next = s .next; members = so .members; controls = controlsOf c })
 
@@ -173,16 +185,14 @@ module _ (q : Given) (t : Transaction) (codes ids₀ entries₀ journal₀ : Lis
 
   pub few-ranges : c .ranges ≤ 256
   few-ranges =
-      let m = so .controls .meaning in
-      let z : controlsAfter (controlsOf (t .controls)) (visitsFrom q t) ≡ controlsAfter (controlsOf c) left =
-      ap (controlsAfter (controlsOf (t .controls))) (so .whole)
-      ∙ (controls-append (controlsOf (t .controls)) (so .done) left ∙ ap (λ (x : reading.Controls). controlsAfter x left) (sym m))
-      in
-      let g : Grown (controlsOf c) (controlsAfter (controlsOf (t .controls)) (visitsFrom q t)) =
-      rw z (walk-grows (ruleCount q - visits) q (record { next = s .next; members = so .members; controls = controlsOf c })) in
-      let l : length (controlsOf c .ranges) ≡ length (controlsAfter (controlsOf (t .controls)) (so .done) .ranges) = ap
-      (λ (x : reading.Controls). length (x .ranges)) m in
-      omega (arith, became-ranges (so .controls), g .ranges, ready .ranges, l)
+      omega (
+        arith,
+        ranges-length c,
+        so .held-ranges,
+        ready .ranges,
+        ap (λ (vs : List Visit). unitsGive q rangeCount (closedIn vs)) (so .whole),
+        given-append q rangeCount (so .done) left,
+      )
 
 -- THE END
 
@@ -191,7 +201,7 @@ pub finished : (q : Given) (t : Transaction) (ids₀ entries₀ journal₀ ids e
     (visits listed written last : ℕ) (e : Ending)
     (stop : OptionIntervention)
     → Written q t ids₀ entries₀ journal₀ (visitsFrom q t) ids entries journal visits listed written
-    → Became (t .controls) c (controlsAfter (controlsOf (t .controls)) (visitsFrom q t))
+    → Became (addsRanges q (visitsFrom q t)) (t .controls) c (controlsAfter (controlsOf (t .controls)) (visitsFrom q t))
     → cond (isErrs e) 10 0 ≡ answerBy (visitsFrom q t) → cond (isErrs e) last 0 ≡ errorIndexBy (visitsFrom q t)
     → isAllows e ≡ allowedBy (visitsFrom q t) → stop ≡ interventionBy (visitsFrom q t)
     → Walked q t (walkLists ids₀ entries₀ journal₀) (endedBy e last visits listed written stop c) (walkLists ids entries journal)
@@ -221,12 +231,12 @@ finished q t ids₀ entries₀ journal₀ ids entries journal c visits listed wr
       intervention = i;
     }
 
-pub sofar-end : (q : Given) (t : Transaction) (ids₀ entries₀ journal₀ ids entries journal : List ℕ) (c : Controls) (s : State)
+pub sofar-end : (q : Given) (t : Transaction) (ids₀ entries₀ journal₀ ids entries journal : List ℕ) (c : Controls) (added : Bool) (s : State)
     (visits listed written : ℕ)
-    → Sofar q t ids₀ entries₀ journal₀ ids entries journal c s visits listed written → ruleCount q ≤ s .next
+    → Sofar q t ids₀ entries₀ journal₀ ids entries journal c added s visits listed written → ruleCount q ≤ s .next
     → Walked q t (walkLists ids₀ entries₀ journal₀) (endedBy Ending.GoesOn 0 visits listed written OptionIntervention.None c)
     (walkLists ids entries journal)
-sofar-end q t ids₀ entries₀ journal₀ ids entries journal c s visits listed written so h =
+sofar-end q t ids₀ entries₀ journal₀ ids entries journal c added s visits listed written so h =
     let e : visitsFrom q t ≡ so .done ++ [] =
     rw (← walk-end (ruleCount q - visits) q (record { next = s .next; members = so .members; controls = controlsOf c }) h)
     (so .whole) in

@@ -25,12 +25,14 @@ use Rattle.reading.specs.Demand3.{Demand3}
 use Rattle.lists.proofs.Tests.{or-false}
 use Rattle.theorems.specs.Demands.{AsLent, demand3, refused-as-lent, idle-as-lent}
 use Rattle.theorems.specs.Demands.{none-held, or-none, refused-answer, idle-answer, accepted-answer}
-use Rattle.theorems.specs.WithinLimits.{Passed, passed, next-one, Free, not-seventh, Within, accepted-within}
+use Rattle.theorems.specs.WithinLimits.{Passed, passed, next-one, Free, not-seventh, ranges-given, targets-given}
+use Rattle.theorems.specs.WalkRanges.{accepted-form}
 use Rattle.theorems.specs.WithinLimits.{accepted-visits, ids-within, data-within, visits-within, length-journal}
 use Rattle.lists.proofs.RecordLaws.{length-records}
 use Rattle.theorems.specs.Reported.{report-told}
 use Rattle.unit.proofs.members.WordLaws.{journal-over, journal-written, data-free-end, length-journal-words}
 use Rattle.control.specs.ControlsStruct.{controlsOf, Became}
+use Rattle.apply.specs.AddedRanges.{addsRanges}
 use Rattle.apply.specs.Codes.{codesOf}
 use Rattle.refusals.specs.FirstRefusal.{firstOfSeven}
 use Rattle.refusals.proofs.first.LentLaws.{one-same, one-past}
@@ -38,6 +40,7 @@ use Rattle.transaction.specs.declared.types.Transaction.{Transaction}
 use Rattle.transaction.specs.declared.types.Phase.{Phase}
 use Rattle.transaction.specs.RunPhase.{transactionOf, callOf, answerWithout, outcomeFound, Ran}
 use Rattle.transaction.specs.WalkRules.{WalkLists, walkLists, fresh, visitsFrom, Ready, Walked}
+use Rattle.transaction.proofs.Turns.{true-false}
 
 -- THE FIRST REFUSAL, BY ITS PARTS
 
@@ -167,8 +170,8 @@ module _ (g : Given) (t : Transaction) (l : LentLists) where
             ∙ ap (λ (vs : List Visit). atFreeEnd (4 * t .entries) (l .entries) (dataWords (dataOf g vs))) (sym v);
         controls = record {
           meaning = ap (λ x. x .controls) (sym (same .transaction));
-          starts = refl;
-          ends = refl;
+          kept = λ z. record { count = refl; starts = refl; ends = refl };
+          cleared = λ z. absurd (true-false (sym z ∙ ap (addsRanges g) v));
           phases = refl;
           positions = refl;
         };
@@ -200,7 +203,6 @@ module _ (g : Given) (t : Transaction) (l : LentLists) where
     ready-of codes coded =
         let p : Passed q = passed q e in
         let f : Free q = not-seventh q (p .seventh) in
-        let w : Within q = accepted-within q e in
         record {
           outcomes = as-many-outcomes q (p .fourth);
           actions = few-actions q (p .second);
@@ -211,8 +213,9 @@ module _ (g : Given) (t : Transaction) (l : LentLists) where
           visits-few = rw walk-is at (visits-within g entry);
           ids-few = rw walk-is at (ids-within g entry);
           data-few = rw walk-is at (data-within g entry);
-          ranges = rw controls-are at (w .ranges);
-          targets = rw controls-are at (w .targets);
+          ranges = rw walk-is at (ranges-given q e);
+          targets = rw walk-is at (targets-given q e);
+          merged = accepted-form q e;
           not-off = busy g entry h .not-off;
         }
 
@@ -277,7 +280,7 @@ module _ (g : Given) (t : Transaction) (l : LentLists) where
         outcome-is : outcomeFound reported l′ ≡ outcomeOf q
         unfolding outcomeOf
         outcome-is =
-            let b : Busy g entry = busy g entry h in
+            let y : Busy g entry = busy g entry h in
             let answer : r .answer .answer ≡ outcomeOf q .answer =
             w .answer ∙ (ap answerBy (sym walk-is) ∙ sym (accepted-answer q e)) in
             let error : r .answer .error ≡ outcomeOf q .error = w .error ∙ ap errorIndexBy back in
@@ -295,10 +298,10 @@ module _ (g : Given) (t : Transaction) (l : LentLists) where
             let controls : controlsOf (r .transaction .controls) ≡ outcomeOf q .transaction .controls =
             w .controls .meaning ∙ sym controls-are in
             let allowed : r .transaction .allowed ≡ outcomeOf q .transaction .allowed =
-            w .allowed ∙ (ap allowedBy back ∙ ap (λ (x : Bool). x || allowedBy (visitsOf q)) (sym (b .unallowed))) in
+            w .allowed ∙ (ap allowedBy back ∙ ap (λ (x : Bool). x || allowedBy (visitsOf q)) (sym (y .unallowed))) in
             let stop : r .transaction .intervention ≡ outcomeOf q .transaction .intervention =
             w .intervention ∙ (ap interventionBy back ∙ (sym (or-none (interventionBy (visitsOf q)))
-            ∙ ap (λ (i : OptionIntervention). ifNone (interventionBy (visitsOf q)) i) (sym (b .unstopped)))) in
+            ∙ ap (λ (i : OptionIntervention). ifNone (interventionBy (visitsOf q)) i) (sym (y .unstopped)))) in
             let ids-used : r .transaction .ids ≡ outcomeOf q .transaction .ids =
             w .ids-used ∙ ap (λ (m : List Visit). t .ids + length (idsOf g m)) back in
             let data-used : r .transaction .entries ≡ outcomeOf q .transaction .data-entries =
@@ -325,7 +328,7 @@ module _ (g : Given) (t : Transaction) (l : LentLists) where
               journal-numbers = w .journal-numbers ∙ ap (λ (m : List Visit). over (l .journal) (journalWords (journalOf m))) back;
               data-numbers = w .data-numbers
                   ∙ ap (λ (m : List Visit). atFreeEnd (4 * t .entries) (l .entries) (dataWords (dataOf g m))) back;
-              controls = subst (λ x. Became (t .controls) (r .transaction .controls) x) (sym controls-are) (w .controls);
+              controls = rw (controls-are, ← back) (w .controls);
               refused = λ n. absurd (n e);
               demand3 = subst (λ x. Demand3 q x) (sym outcome-is) (demand3 q);
             }

@@ -8,7 +8,7 @@ use lib.Dec.{eqb}
 use Rattle.reading.specs.declared.RuleEngineMode.{RuleEngineMode}
 use Rattle.reading.specs.Lists.{any, over}
 use Rattle.reading.specs.Numbers.{modeOfNumber}
-use Rattle.reading.specs.Controls.{isOff, modeOr}
+use Rattle.reading.specs.Controls.{isOff, modeOr, badControls}
 use Rattle.reading.specs.Records.{ruleList, actionList, markerList, journalList, givenOf, LentLists}
 use Rattle.reading.specs.declared.CallSettings.{CallSettings}
 use Rattle.reading.specs.declared.Report.{Report}
@@ -58,8 +58,7 @@ module _ (g : Lent) where
 
   abbrev sizesOf : Sizes
   sizesOf = record {
-    ranges = g .t .controls .ranges;
-    targets = g .t .controls .targets;
+    «bad_controls» = badControls (controlsOf (g .t .controls));
     «ids_used» = g .t .ids;
     «entries_used» = g .t .entries;
     ids = length (g .lists .ids);
@@ -68,8 +67,7 @@ module _ (g : Lent) where
 
   pub sized-so : Sized (q .transaction) (q .lists) sizesOf
   sized-so = record {
-    ranges = ranges-length (g .t .controls);
-    targets = targets-length (g .t .controls);
+    controls = refl;
     ids-used = refl;
     entries-used = refl;
     ids = refl;

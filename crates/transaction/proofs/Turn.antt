@@ -8,7 +8,7 @@ use native.Mathlib.Nat.{add-zero}
 use mir.Syntax.{w64}
 use mir.Val.{Fits}
 use lib.Dec.{eqb}
-use lib.ListN.{length, take, drop, length-append, length-take, drop-of-length-le, take-append-drop}
+use lib.ListN.{length, take, drop, getD, length-append, length-take, drop-of-length-le, take-append-drop}
 use lib.Seq.{drop-append-le, take-all}
 use Rattle.reading.specs.declared.DisruptiveOutcome.{DisruptiveOutcome}
 use Rattle.reading.specs.declared.DataEntry.{DataEntry}
@@ -17,7 +17,9 @@ use Rattle.reading.specs.declared.JournalEntry.{JournalEntry}
 use Rattle.reading.specs.declared.OptionIntervention.{OptionIntervention}
 use Rattle.reading.specs.declared.RuleEngineMode.{RuleEngineMode}
 use Rattle.reading.specs.declared.Verdict.{Verdict}
-use Rattle.reading.specs.Lists.{keep, over, gather}
+use Rattle.reading.specs.Lists.{any, keep, over, gather, total}
+use Rattle.reading.specs.Directive.{Directive, rangeCount, targetCount}
+use Rattle.reading.specs.Refusals.{ruleTotal}
 use Rattle.reading.specs.Numbers.{verdictNumber}
 use Rattle.reading.specs.Outcome.{atFreeEnd}
 use Rattle.reading.specs.Reading.{rust}
@@ -26,22 +28,26 @@ use Rattle.reading.specs.Controls.{isOff, isOn}
 use Rattle.reading.specs.Walk as defined
 use Rattle.reading.specs.Walk.{givesAllow, isError}
 use Rattle.reading.specs.Controls as plain
-use Rattle.reading.specs.Call.{Given, ruleCount, modeUnder, isLink}
+use Rattle.reading.specs.Call.{Given, ruleCount, modeUnder, isLink, noRule}
 use Rattle.reading.specs.Units.{unitIds, unitData, unitControls, unitFlow, unitDisruptive, unitIntervention, isAllow}
 use Rattle.reading.specs.Units.{isStopping}
-use Rattle.reading.specs.Walk.{Visit, isLast, entryOf, journalOf, idsOf, dataOf, controlsAfter, walk, verdictAt, visitAt}
+use Rattle.reading.specs.Walk.{Visit, isLast, entryOf, journalOf, closedIn, idsOf, dataOf, controlsAfter, walk, verdictAt, visitAt}
 use Rattle.reading.specs.Walk.{afterFlow}
 use Rattle.lists.proofs.Tests.{or-false, or-false-is}
-use Rattle.theorems.specs.WithinLimits.{length-journal}
+use Rattle.theorems.specs.WithinLimits.{length-journal, unitsGive, visit-ranges, visit-targets, give-append}
+use Rattle.theorems.specs.WalkRanges.{visit-merged}
 use Rattle.theorems.specs.Rising.{goes-ahead}
 use Rattle.control.specs.declared.state.Controls.{Controls}
 use Rattle.control.specs.ControlsStruct.{controlsOf, Became}
-use Rattle.control.proofs.Chained.{became-same, became-then}
+use Rattle.control.proofs.Chained.{became-then}
 use Rattle.apply.specs.declared.append.ControlCounts.{ControlCounts}
-use Rattle.apply.specs.Append.{structOf}
+use Rattle.apply.specs.Append.{structOf, Changed}
 use Rattle.apply.specs.UnitCodes.{unitByCodes}
+use Rattle.apply.specs.UnitChanges.{unitAdds}
+use Rattle.apply.specs.AddedRanges.{unitRemoves, addsRanges}
+use Rattle.apply.proofs.append.ChangedLaws.{changed-same, changed-as, changed-became}
 use Rattle.apply.proofs.run.StepLaws.{Grown}
-use Rattle.apply.proofs.run.Fits.{sourceOf, unit-fits}
+use Rattle.apply.proofs.run.Fits.{sourceOf, unit-fits, unit-removes}
 use Rattle.lists.proofs.RecordLaws.{length-rules}
 use Rattle.unit.proofs.members.MatchedLaws.{matched-append}
 use Rattle.unit.proofs.members.WordLaws.{length-journal-words, journal-words-append, data-words-append, length-data-words}
@@ -63,7 +69,7 @@ use Rattle.transaction.specs.WalkRules.{walkLists, visitsFrom, Ready, is
 use Rattle.transaction.specs.WalkRules.{Room, movedBy, leftBy, UnitClosed}
 use Rattle.transaction.proofs.Turns.{walk-step, walk-off, walk-clip, journal-more, ids-append, data-append, controls-append}
 use Rattle.transaction.proofs.Turns.{going-more, answer-after, error-after, allowed-after, intervention-after}
-use Rattle.transaction.proofs.Turns.{visit-grows, kept-grows, walk-grows, true-false}
+use Rattle.transaction.proofs.Turns.{visit-grows, given-append, adds-append, true-false}
 use Rattle.transaction.proofs.Parts.{whole-length, free-length, put-free}
 use Rattle.transaction.proofs.Found.{entry-is, closed-is, controls-is, next-is, first-is, closes-matched, members-are}
 use Rattle.transaction.proofs.Ends.{kindOf, endOf, last-kind, error-kind, allow-kind, ending-is, stopping-is}
@@ -171,11 +177,12 @@ pub record Turning : Type 0 where
   pub entries : List ℕ
   pub journal : List ℕ
   pub c : Controls
+  pub added : Bool
   pub s : State
   pub visits : ℕ
   pub listed : ℕ
   pub written : ℕ
-  pub so : Sofar q t ids₀ entries₀ journal₀ ids entries journal c s visits listed written
+  pub so : Sofar q t ids₀ entries₀ journal₀ ids entries journal c added s visits listed written
   pub inside : s .next < ruleCount q
   pub found : Verdict
   pub found-is : found ≡ verdictAt q (controlsOf c) (s .next)
@@ -219,6 +226,9 @@ module _ (turn : Turning) where
   abbrev c : Controls
   c = turn .c
 
+  abbrev added : Bool
+  added = turn .added
+
   abbrev s : State
   s = turn .s
 
@@ -231,7 +241,7 @@ module _ (turn : Turning) where
   abbrev written : ℕ
   written = turn .written
 
-  abbrev so : Sofar q t ids₀ entries₀ journal₀ ids entries journal c s visits listed written
+  abbrev so : Sofar q t ids₀ entries₀ journal₀ ids entries journal c added s visits listed written
   so = turn .so
 
   abbrev inside : s .next < ruleCount q
@@ -271,13 +281,26 @@ module _ (turn : Turning) where
   abbrev done′ : List Visit
   done′ = so .done ++ (v ∷ [])
 
-  -- the controls after the visit are no more than those at the end
-  grown : Grown (v .after .controls) (controlsAfter (controlsOf (t .controls)) (visitsFrom q t))
-  grown =
-      let z : controlsAfter (controlsOf (t .controls)) (visitsFrom q t) ≡ controlsAfter (v .after .controls) tail =
-      ap (controlsAfter (controlsOf (t .controls))) step ∙ controls-append (controlsOf (t .controls)) (so .done) (v ∷ tail) in
-      rw z (kept-grows (v .after .controls) (not (isLast (v .ending))) (walk (ruleCount q - (visits + 1)) q (v .after))
-      (walk-grows (ruleCount q - (visits + 1)) q (v .after)))
+  -- what is held, what the visit's unit gives and what later ones give
+  given-by : (given : Directive → ℕ)
+      → unitsGive q given (closedIn (visitsFrom q t)) ≡ unitsGive q given (closedIn (so .done)) + (unitsGive q given (v .closed) + unitsGive q given (closedIn tail))
+  given-by given =
+      ap (λ (vs : List Visit). unitsGive q given (closedIn vs)) step
+      ∙ (given-append q given (so .done) (v ∷ tail)
+      ∙ ap (λ (n : ℕ). unitsGive q given (closedIn (so .done)) + n) (give-append q given (v .closed) (closedIn tail)))
+
+  given-now : (given : Directive → ℕ) → unitsGive q given (closedIn done′) ≡ unitsGive q given (closedIn (so .done)) + unitsGive q given (v .closed)
+  given-now given =
+      given-append q given (so .done) (v ∷ [])
+      ∙ ap (λ (us : List (List ℕ)). unitsGive q given (closedIn (so .done)) + unitsGive q given us) (append-nil (v .closed))
+
+  ranges-now : length (v .after .controls .ranges) ≤ length (controlsOf c .ranges) + unitsGive q rangeCount (v .closed)
+  unfolding visitAt
+  ranges-now = visit-ranges q st (verdictAt q (controlsOf c) (s .next)) (isLink q (s .next))
+
+  targets-now : length (v .after .controls .targets) ≤ length (controlsOf c .targets) + unitsGive q targetCount (v .closed)
+  unfolding visitAt
+  targets-now = visit-targets q st (verdictAt q (controlsOf c) (s .next)) (isLink q (s .next))
 
   visit-grown : Grown (controlsOf c) (v .after .controls)
   unfolding visitAt
@@ -286,6 +309,15 @@ module _ (turn : Turning) where
   goes : s .next < v .after .next
   unfolding visitAt
   goes = goes-ahead q st (verdictAt q (controlsOf c) (s .next)) (isLink q (s .next)) inside
+
+  -- whether the visit's unit adds ranges
+  abbrev adds : Bool
+  adds = any (unitRemoves q) (v .closed)
+
+  adds-now : addsRanges q done′ ≡ (addsRanges q (so .done) || adds)
+  adds-now =
+      adds-append q (so .done) (v ∷ [])
+      ∙ ap (λ (us : List (List ℕ)). addsRanges q (so .done) || any (unitRemoves q) us) (append-nil (v .closed))
 
   -- ROOM
   ids-start : listed ≤ length ids
@@ -410,11 +442,21 @@ module _ (turn : Turning) where
     coded-now e =
         let a : unitControls q unit (controlsOf c) ≡ v .after .controls = sym
         (controls-now ∙ ap (λ (b : Bool). cond b (unitControls q unit (controlsOf c)) (controlsOf c)) e) in
-        let r : length (unitControls q unit (controlsOf c) .ranges) ≤ 256 = rw a (omega (arith, grown .ranges, ready .ranges)) in
-        let g : length (unitControls q unit (controlsOf c) .targets) ≤ 64 = rw a (omega (arith, grown .targets, ready .targets))
-        in
+        let alone : v .closed ≡ unit ∷ [] = closed-now ∙ ap (λ (b : Bool). keep b (unit ∷ [])) e in
+        let one : (given : Directive → ℕ) → unitsGive q given (v .closed) ≡ total (λ m. ruleTotal q given (getD (q .rules) m noRule)) unit
+        = (λ given. ap (unitsGive q given) alone ∙ add-zero (total (λ m. ruleTotal q given (getD (q .rules) m noRule)) unit)) in
         ap (λ (ms : List ℕ). unitByCodes (sourceOf q) codes (q .rules) ms (controlsOf c)) (unit-part e)
-        ∙ (unit-fits q codes 4096 (ready .digested) unit (controlsOf c) r g ∙ a)
+        ∙ (unit-fits q codes 4096 (ready .digested) unit (controlsOf c)
+        (record {
+          for-ranges = omega (arith, so .held-ranges, ready .ranges, given-by rangeCount, one rangeCount);
+          for-targets = omega (arith, so .held-targets, ready .targets, given-by targetCount, one targetCount);
+        }) ∙ a)
+
+    coded-adds : w .closes ≡ true → unitAdds codes (q .rules) part ≡ adds
+    coded-adds e =
+        ap (unitAdds codes (q .rules)) (unit-part e)
+        ∙ (unit-removes q codes 4096 (ready .digested) unit
+        ∙ (sym (or-false-is (unitRemoves q unit)) ∙ sym (ap (any (unitRemoves q)) (closed-now ∙ ap (λ (b : Bool). keep b (unit ∷ [])) e))))
 
     -- THE LISTS
     module _ (u : UnitOutcome) (il el : List ℕ)
@@ -567,15 +609,19 @@ module _ (turn : Turning) where
       fewer-left n h = omega (arith, next-more)
 
       -- HOW THE TURN ENDS
-      module _ (c′ : Controls) (c′-is : Became c c′ (v .after .controls)) (e : Ending)
+      module _ (added′ : Bool) (c′ : Controls) (c′-is : Changed adds added c added′ c′ (v .after .controls)) (e : Ending)
           (e-is : e ≡ endOf found (u .disruptive) (modeUnder q (controlsOf c′))) where
-        became-now : Became (t .controls) c′ (controlsAfter (controlsOf (t .controls)) done′)
+        became-now : Became (addsRanges q done′) (t .controls) c′ (controlsAfter (controlsOf (t .controls)) done′)
         became-now =
             let z : controlsAfter (controlsOf (t .controls)) done′ ≡ v .after .controls = controls-append
             (controlsOf (t .controls)) (so .done) (v ∷ []) in
             let g : Grown (controlsAfter (controlsOf (t .controls)) (so .done)) (v .after .controls) = subst
             (λ (x : plain.Controls). Grown x (v .after .controls)) (so .controls .meaning) visit-grown in
-            rw z (became-then (so .controls) c′-is (g .ranges) (g .targets))
+            rw (z, adds-now)
+            (became-then (so .controls) (changed-became c′-is (λ x. so .controls .cleared (sym (so .added-is) ∙ x))) g)
+
+        added-now : added′ ≡ addsRanges q done′
+        added-now = c′-is .flag ∙ (ap (λ (b : Bool). b || adds) (so .added-is) ∙ sym adds-now)
 
         disruptive-now : u .disruptive ≡ cond (w .closes) (unitDisruptive q unit) DisruptiveOutcome.Nothing
         disruptive-now = u-is .disruptive-is ∙ go (w .closes) refl
@@ -636,7 +682,7 @@ module _ (turn : Turning) where
                 (sym (entry-is q reading (so .members) (controlsOf c) s visits inside found found-is w w-is))
 
         sofar-more : (not (isGoing e) || isOff (modeUnder q (controlsOf c′))) ≡ false
-            → Sofar q t ids₀ entries₀ journal₀ ids′ entries′ journal′ c′
+            → Sofar q t ids₀ entries₀ journal₀ ids′ entries′ journal′ c′ added′
             (record { next = u .next; chained = w .after .chained; first = w .after .first })
             (visits + 1) (listed + u .ids) (written + u .entries)
         sofar-more h =
@@ -650,6 +696,10 @@ module _ (turn : Turning) where
               going = going-more (so .done) v (so .going) going-on;
               lists = written-now;
               controls = became-now;
+              added-is = added-now;
+              held-ranges = rw (c′-is .meaning) (omega (arith, so .held-ranges, ranges-now, given-now rangeCount));
+              held-targets = rw (c′-is .meaning) (omega (arith, so .held-targets, targets-now, given-now targetCount));
+              merged = rw (c′-is .meaning) (visit-merged q st (so .merged));
               not-off = both .1;
               agree = agree-now (w .after .chained) refl;
               entry = entry-now (w .after .chained);
@@ -714,43 +764,45 @@ module _ (turn : Turning) where
           (drop listed ids) (drop (4 * written) entries)
       gave-nothing = gave-none q (w .closes) part (w .after .next) (drop listed ids) (drop (4 * written) entries) waits
 
-      controls-same : Became c c (v .after .controls)
+      controls-same : Changed adds added c added c (v .after .controls)
       controls-same =
-          subst (Became c c)
-          (sym (controls-now ∙ ap (λ (b : Bool). cond b (unitControls q unit (controlsOf c)) (controlsOf c)) waits)) (became-same c)
+          changed-as
+          (sym (ap (any (unitRemoves q)) (closed-now ∙ ap (λ (b : Bool). keep b (unit ∷ [])) waits)))
+          (sym (controls-now ∙ ap (λ (b : Bool). cond b (unitControls q unit (controlsOf c)) (controlsOf c)) waits))
+          (changed-same added c)
 
       -- it leads on, where its rule had no error
       pub sofar-on : visit.isError found ≡ false
-          → Sofar q t ids₀ entries₀ journal₀ ids entries journal′ c (w .after) (visits + 1) listed written
+          → Sofar q t ids₀ entries₀ journal₀ ids entries journal′ c added (w .after) (visits + 1) listed written
       sofar-on h =
           rw (take-append-drop listed ids, take-append-drop (4 * written) entries, add-zero listed, add-zero written) at
-          (sofar-more (nothing (w .after .next)) (drop listed ids) (drop (4 * written) entries) gave-nothing c controls-same
+          (sofar-more (nothing (w .after .next)) (drop listed ids) (drop (4 * written) entries) gave-nothing added c controls-same
           Ending.GoesOn (rw h) (so .not-off))
 
       pub fewer-left-on : (n : ℕ) → s .next < n → n - w .after .next < n - s .next
       fewer-left-on = fewer-left (nothing (w .after .next)) (drop listed ids) (drop (4 * written) entries) gave-nothing
 
     -- A RULE ERROR
+    unclosed : visit.isError found ≡ true → w .closes ≡ false
+    unclosed h = not-closed (w .closes) refl
+      where
+        not-closed : (b : Bool) → w .closes ≡ b → b ≡ false
+        not-closed false d = refl
+        not-closed true d =
+            absurd (true-false (sym h ∙ ap visit.isError
+            (closes-matched q reading (so .members) (controlsOf c) s visits inside found found-is w w-is d)))
+
     pub sofar-error : visit.isError found ≡ true
         → Walked q t (walkLists ids₀ entries₀ journal₀) (endedBy Ending.Errs (s .next) (visits + 1) listed written OptionIntervention.None c)
         (walkLists ids entries journal′)
     sofar-error h =
         rw (take-append-drop listed ids, take-append-drop (4 * written) entries, add-zero listed, add-zero written) at
-        (sofar-last (nothing (w .after .next)) (drop listed ids) (drop (4 * written) entries) (gave-nothing unclosed) c (controls-same unclosed)
+        (sofar-last (nothing (w .after .next)) (drop listed ids) (drop (4 * written) entries) (gave-nothing (unclosed h)) added c (controls-same (unclosed h))
         Ending.Errs (rw h) (s .next) refl OptionIntervention.None refl refl)
-      where
-        unclosed : w .closes ≡ false
-        unclosed = not-closed (w .closes) refl
-          where
-            not-closed : (b : Bool) → w .closes ≡ b → b ≡ false
-            not-closed false d = refl
-            not-closed true d =
-                absurd (true-false (sym h ∙ ap visit.isError
-                (closes-matched q reading (so .members) (controlsOf c) s visits inside found found-is w w-is d)))
 
     -- A VISIT THAT CLOSES A UNIT
     module _ (closes : w .closes ≡ true) (counts : ControlCounts) (starts ends phases positions : List ℕ)
-        (c-is : c ≡ structOf counts starts ends phases positions) where
+        (c-is : c ≡ structOf counts starts ends phases positions) (added-is : added ≡ counts .added) where
       abbrev at : WalkState
       at = record { state = w .after; visits = visits + 1; ids = listed; entries = written; counts = counts }
 
@@ -771,11 +823,13 @@ module _ (turn : Turning) where
           abbrev c₁ : Controls
           c₁ = structOf (x .counts) starts₁ ends₁ phases₁ positions₁
 
-          became-unit : Became c c₁ (v .after .controls)
-          became-unit =
-              subst (Became c c₁) (coded-now closes)
-              (subst (λ (y : Controls). Became y c₁ (unitByCodes (sourceOf q) codes (q .rules) part (controlsOf y))) (sym c-is)
-              (x .turned))
+          changed-unit : Changed adds added c (x .counts .added) c₁ (v .after .controls)
+          changed-unit =
+              changed-as (coded-adds closes) (coded-now closes)
+              (subst (λ (f : Bool). Changed (unitAdds codes (q .rules) part) f c (x .counts .added) c₁ (unitByCodes (sourceOf q) codes (q .rules) part (controlsOf c)))
+              (sym added-is)
+              (subst (λ (y : Controls). Changed (unitAdds codes (q .rules) part) (counts .added) y (x .counts .added) c₁
+              (unitByCodes (sourceOf q) codes (q .rules) part (controlsOf y))) (sym c-is) (x .turned)))
 
           abbrev mode : RuleEngineMode
           mode = modeUnder q (controlsOf c₁)
@@ -800,13 +854,13 @@ module _ (turn : Turning) where
                 (sym (x .left-is) ∙ goes-on)
 
             pub sofar-closed : Sofar q t ids₀ entries₀ journal₀ ids₁ entries₁ journal′
-                (structOf (next .counts) starts₁ ends₁ phases₁ positions₁) (next .state) (next .visits) (next .ids) (next .entries)
+                (structOf (next .counts) starts₁ ends₁ phases₁ positions₁) (next .counts .added) (next .state) (next .visits) (next .ids) (next .entries)
             sofar-closed =
                 rw (x .ids-are, x .entries-are)
                 (subst (λ (n : WalkState). Sofar q t ids₀ entries₀ journal₀ (take listed ids ++ x .free-ids)
                 (take (4 * written) entries ++ x .free-entries) journal′
-                (structOf (n .counts) starts₁ ends₁ phases₁ positions₁) (n .state) (n .visits) (n .ids) (n .entries)) (left .1)
-                (sofar-more u (x .free-ids) (x .free-entries) gave c₁ became-unit e end-now (left .0)))
+                (structOf (n .counts) starts₁ ends₁ phases₁ positions₁) (n .counts .added) (n .state) (n .visits) (n .ids) (n .entries)) (left .1)
+                (sofar-more u (x .free-ids) (x .free-entries) gave (x .counts .added) c₁ changed-unit e end-now (left .0)))
 
             pub fewer-left-closed : (n : ℕ) → s .next < n → n - next .state .next < n - s .next
             fewer-left-closed n h =
@@ -825,7 +879,7 @@ module _ (turn : Turning) where
               (endedBy (y .ending) (y .at .state .next) (y .at .visits) (y .at .ids) (y .at .entries) (y .stop)
               (structOf (y .at .counts) starts₁ ends₁ phases₁ positions₁)) (walkLists (take listed ids ++ x .free-ids)
               (take (4 * written) entries ++ x .free-entries) journal′)) (l .1)
-              (sofar-last u (x .free-ids) (x .free-entries) gave c₁ became-unit e end-now (u .next)
+              (sofar-last u (x .free-ids) (x .free-entries) gave (x .counts .added) c₁ changed-unit e end-now (u .next)
               (no-index (u .next) (s .next) (isAllow (u .disruptive)) (isStopping (u .disruptive) && isOn mode))
               (interventionAtEnd e (unitIntervention q part)) refl (l .0)))
 
@@ -838,10 +892,10 @@ past-rules rules i h = omega (arith, length-rules rules)
 
 -- room in the journal for the visit to come
 pub journal-ahead : (q : Given) (t : Transaction) (codes ids₀ entries₀ journal₀ : List ℕ) → Ready q t codes (walkLists ids₀ entries₀ journal₀)
-    → q .reading ≡ rust → (ids entries journal : List ℕ) (c : Controls) (s : State) (visits listed written : ℕ)
-    → Sofar q t ids₀ entries₀ journal₀ ids entries journal c s visits listed written → s .next < ruleCount q
+    → q .reading ≡ rust → (ids entries journal : List ℕ) (c : Controls) (added : Bool) (s : State) (visits listed written : ℕ)
+    → Sofar q t ids₀ entries₀ journal₀ ids entries journal c added s visits listed written → s .next < ruleCount q
     → 2 * visits + 2 ≤ length journal
-journal-ahead q t codes ids₀ entries₀ journal₀ ready reading ids entries journal c s visits listed written so inside =
+journal-ahead q t codes ids₀ entries₀ journal₀ ready reading ids entries journal c added s visits listed written so inside =
     journal-next (record {
       q = q;
       t = t;
@@ -855,6 +909,7 @@ journal-ahead q t codes ids₀ entries₀ journal₀ ready reading ids entries j
       entries = entries;
       journal = journal;
       c = c;
+      added = added;
       s = s;
       visits = visits;
       listed = listed;

@@ -1,22 +1,26 @@
 -- Laws of the walk: its turns, lists of its visits with one more, and visits none of which is the last. Assumes nothing.
 use Prim.Native.Nat.{ℕ, zero, suc, _+_, _-_, _≤_, _<_, min}
 use mathlib.Core.Path.{_≡_, refl, sym, ap, _∙_}
-use mathlib.Core.Bool.{Bool, true, false, not, cond, _&&_}
+use mathlib.Core.Bool.{Bool, true, false, not, cond, _&&_, _||_}
 use mathlib.Core.List.{List, [], _∷_, _++_, append-assoc}
 use native.Mathlib.Omega.{arith}
 use borrow.Author.Tests.{lt-ltb, le-ltb, ltb-true, ltb-false}
 use lib.Dec.{ltb}
 use Rattle.reading.specs.declared.JournalEntry.{JournalEntry}
 use Rattle.reading.specs.declared.Verdict.{Verdict}
-use Rattle.reading.specs.Lists.{keep, gather}
+use Rattle.reading.specs.Lists.{any, keep, gather}
 use Rattle.reading.specs.Controls.{Controls, isOff}
 use Rattle.reading.specs.Call.{Given, ruleCount, modeUnder, isLink}
 use Rattle.reading.specs.Units.{unitIds, unitData}
 use Rattle.reading.specs.Walk.{State, Visit, Ending, goesOn, allows, errs, stops, isLast, visitBy, visitAt, verdictAt, isVisited}
 use Rattle.reading.specs.Walk.{walk, entryOf, journalOf, closedIn, idsOf, dataOf, controlsAfter, givesAllow, allowedBy}
 use Rattle.reading.specs.Walk.{interventionBy, isError, answerBy, errorIndexBy}
+use Rattle.reading.specs.Directive.{Directive}
 use Rattle.theorems.specs.Replayed.{not-last}
-use Rattle.apply.proofs.run.StepLaws.{Grown, grown-same, grown-then}
+use Rattle.theorems.specs.WithinLimits.{unitsGive, give-append}
+use Rattle.lists.proofs.Tests.{any-append}
+use Rattle.apply.specs.AddedRanges.{unitRemoves, addsRanges}
+use Rattle.apply.proofs.run.StepLaws.{Grown}
 use Rattle.apply.proofs.run.Fits.{grows}
 
 -- TURNS
@@ -124,27 +128,19 @@ pub intervention-after : (l m : List Visit) → Going l → interventionBy (l ++
 intervention-after [] m g = refl
 intervention-after (v ∷ l) m g = not-last (v .ending) (interventionBy (l ++ m)) (g .0) ∙ intervention-after l m (g .1)
 
--- THE CONTROLS ONLY GROW
-
+-- NO TARGET IS TAKEN AWAY
 pub visit-grows : (q : Given) (st : State) (v : Verdict) (l : Bool) → Grown (st .controls) (visitBy q st v l .after .controls)
-visit-grows q st Verdict.Missed l = grown-same (st .controls)
-visit-grows q st Verdict.Matched true = grown-same (st .controls)
+visit-grows q st Verdict.Missed l = omega arith
+visit-grows q st Verdict.Matched true = omega arith
 visit-grows q st Verdict.Matched false = grows q (st .members ++ (st .next ∷ [])) (st .controls)
-visit-grows q st Verdict.Removed true = grown-same (st .controls)
-visit-grows q st Verdict.Removed false = grown-same (st .controls)
-visit-grows q st Verdict.Error l = grown-same (st .controls)
+visit-grows q st Verdict.Removed true = omega arith
+visit-grows q st Verdict.Removed false = omega arith
+visit-grows q st Verdict.Error l = omega arith
 
-pub kept-grows : (c : Controls) (b : Bool) (l : List Visit) → Grown c (controlsAfter c l) → Grown c (controlsAfter c (keep b l))
-kept-grows c true l g = g
-kept-grows c false l g = grown-same c
+-- WHAT IS GIVEN, in visits one after the other
+pub given-append : (q : Given) (given : Directive → ℕ) (l m : List Visit)
+    → unitsGive q given (closedIn (l ++ m)) ≡ unitsGive q given (closedIn l) + unitsGive q given (closedIn m)
+given-append q given l m = ap (unitsGive q given) (closed-append l m) ∙ give-append q given (closedIn l) (closedIn m)
 
-pub walk-grows : (k : ℕ) (q : Given) (st : State) → Grown (st .controls) (controlsAfter (st .controls) (walk k q st))
-unfolding walk visitAt
-walk-grows zero q st = grown-same (st .controls)
-walk-grows (suc k) q st =
-    let v = visitAt q st in
-    let rest = keep (not (isLast (v .ending))) (walk k q (v .after)) in
-    kept-grows (st .controls) (isVisited q st) (v ∷ rest)
-    (grown-then (st .controls) (v .after .controls) (controlsAfter (v .after .controls) rest)
-    (visit-grows q st (verdictAt q (st .controls) (st .next)) (isLink q (st .next)))
-    (kept-grows (v .after .controls) (not (isLast (v .ending))) (walk k q (v .after)) (walk-grows k q (v .after))))
+pub adds-append : (q : Given) (l m : List Visit) → addsRanges q (l ++ m) ≡ (addsRanges q l || addsRanges q m)
+adds-append q l m = ap (any (unitRemoves q)) (closed-append l m) ∙ any-append (unitRemoves q) (closedIn l) (closedIn m)

@@ -11,6 +11,7 @@ use Rattle.reading.specs.Report.{noReport}
 use Rattle.reading.specs.Outcome.{Outcome, visitsOf, outcomeOf, atFreeEnd}
 use Rattle.reading.specs.Demand3.{Demand3}
 use Rattle.control.specs.ControlsStruct.{controlsOf, Became}
+use Rattle.apply.specs.AddedRanges.{addsRanges}
 use Rattle.transaction.specs.declared.types.Transaction.{Transaction}
 use Rattle.transaction.specs.declared.types.Answer.{Answer}
 use Rattle.transaction.specs.declared.types.Phase.{Phase}
@@ -53,8 +54,8 @@ pub record Ran (g : Given) (t : Transaction) (l : LentLists) (r : Phase) (l′ :
   -- the same of every single number of the two lists of records, also of one that is after the last whole record
   pub journal-numbers : l′ .journal ≡ over (l .journal) (journalWords (journalOf (visitsOf (callOf g t l))))
   pub data-numbers : l′ .entries ≡ atFreeEnd (4 * t .entries) (l .entries) (dataWords (dataOf g (visitsOf (callOf g t l))))
-  -- and of the places of the controls' arrays that are not in use: they are as found
-  pub controls : Became (t .controls) (r .transaction .controls) (outcomeOf (callOf g t l) .transaction .controls)
+  -- and of the places of the controls' arrays that are not in use: those after the ranges are as found, or 0 where a closed unit added ranges
+  pub controls : Became (addsRanges g (visitsOf (callOf g t l))) (t .controls) (r .transaction .controls) (outcomeOf (callOf g t l) .transaction .controls)
   -- 01: "transaction and lists are found exactly as lent"
   pub refused : (refusalOf (callOf g t l) ≡ 0 → ⊥) → r .transaction ≡ t
   -- demand 3, of the journal that is found

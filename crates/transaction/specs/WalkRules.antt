@@ -11,15 +11,20 @@ use Rattle.reading.specs.Records.{dataWords, journalWords, journalList, matched
 use Rattle.reading.specs.Controls.{isOff}
 use Rattle.reading.specs.Call.{Given, ruleCount, modeUnder}
 use Rattle.reading.specs.Units.{unitIntervention}
-use Rattle.reading.specs.Walk.{Visit, walk, start, journalOf, idsOf, dataOf, controlsAfter, allowedBy, interventionBy, answerBy, errorIndexBy}
+use Rattle.reading.specs.Directive.{rangeCount, targetCount}
+use Rattle.reading.specs.Walk.{Visit, walk, start, journalOf, closedIn, idsOf, dataOf, controlsAfter, allowedBy, interventionBy, answerBy, errorIndexBy}
 use Rattle.reading.specs.Report.{noReport}
 use Rattle.reading.specs.Outcome.{atFreeEnd}
+use Rattle.theorems.specs.MergedRanges.{Merged}
+use Rattle.theorems.specs.WithinLimits.{unitsGive}
 use Rattle.control.specs.declared.state.Controls.{Controls}
 use Rattle.control.specs.ControlsStruct.{controlsOf, Became}
 use Rattle.apply.specs.Codes.{codesOf}
 use Rattle.apply.specs.declared.append.ControlCounts.{ControlCounts}
 use Rattle.apply.specs.Append.{structOf}
 use Rattle.apply.specs.UnitCodes.{unitByCodes}
+use Rattle.apply.specs.UnitChanges.{unitAdds}
+use Rattle.apply.specs.AddedRanges.{addsRanges}
 use Rattle.apply.specs.ApplyUnit.{Turned}
 use Rattle.unit.specs.declared.close.UnitOutcome.{UnitOutcome}
 use Rattle.unit.specs.CloseUnit.{Wrote}
@@ -30,6 +35,7 @@ use Rattle.transaction.specs.declared.types.Transaction.{Transaction}
 use Rattle.transaction.specs.declared.types.Phase.{Phase}
 use Rattle.transaction.specs.declared.types.WalkState.{WalkState}
 use Rattle.transaction.specs.declared.types.AfterUnit.{AfterUnit}
+use Rattle.transaction.specs.declared.types.End.{End}
 use Rattle.transaction.specs.RunPhase.{transactionOf}
 
 -- a transaction without allow and intervention
@@ -60,8 +66,10 @@ pub record Ready (g : Given) (t : Transaction) (codes : List ℕ) (l : WalkLists
   pub visits-few : length (visitsFrom g t) ≤ ruleCount g
   pub ids-few : length (idsOf g (visitsFrom g t)) ≤ ruleCount g
   pub data-few : length (dataOf g (visitsFrom g t)) ≤ ruleCount g
-  pub ranges : length (controlsAfter (controlsOf (t .controls)) (visitsFrom g t) .ranges) ≤ 256
-  pub targets : length (controlsAfter (controlsOf (t .controls)) (visitsFrom g t) .targets) ≤ 64
+  -- what is held and what all closed units give, as it is written
+  pub ranges : length (controlsOf (t .controls) .ranges) + unitsGive g rangeCount (closedIn (visitsFrom g t)) ≤ 256
+  pub targets : length (controlsOf (t .controls) .targets) + unitsGive g targetCount (closedIn (visitsFrom g t)) ≤ 64
+  pub merged : Merged (controlsOf (t .controls) .ranges)
   pub not-off : isOff (modeUnder g (controlsOf (t .controls))) ≡ false
 
 -- whether the walk goes on, unless the mode is Off
@@ -102,7 +110,8 @@ pub record Walked (g : Given) (t : Transaction) (l : WalkLists) (r : Phase) (l�
   pub data-numbers : l′ .entries ≡ atFreeEnd (4 * t .entries) (l .entries) (dataWords (dataOf g (visitsFrom g t)))
   pub ids-used : r .transaction .ids ≡ t .ids + length (idsOf g (visitsFrom g t))
   pub data-used : r .transaction .entries ≡ t .entries + length (dataOf g (visitsFrom g t))
-  pub controls : Became (t .controls) (r .transaction .controls) (controlsAfter (controlsOf (t .controls)) (visitsFrom g t))
+  pub controls : Became (addsRanges g (visitsFrom g t)) (t .controls) (r .transaction .controls)
+      (controlsAfter (controlsOf (t .controls)) (visitsFrom g t))
   pub allowed : r .transaction .allowed ≡ allowedBy (visitsFrom g t)
   pub intervention : r .transaction .intervention ≡ interventionBy (visitsFrom g t)
 
@@ -113,7 +122,7 @@ startOf t = record {
   visits = 0;
   ids = t .ids;
   entries = t .entries;
-  counts = record { settings = t .controls .settings; ranges = t .controls .ranges; targets = t .controls .targets };
+  counts = record { settings = t .controls .settings; ranges = t .controls .ranges; targets = t .controls .targets; added = false };
 }
 
 -- A CLOSED UNIT. `at` is how far the walk is with the visit of the closing rule, before the unit's flow.
@@ -161,7 +170,7 @@ pub record UnitClosed (g : Given) (codes : List ℕ) (at : WalkState) (ids entri
       free-entries
   pub ids-are : ids′ ≡ take (at .ids) ids ++ free-ids
   pub entries-are : entries′ ≡ take (4 * at .entries) entries ++ free-entries
-  pub turned : Turned (at .counts) starts ends phases positions counts starts′ ends′ phases′ positions′
+  pub turned : Turned (unitAdds codes (g .rules) (membersAt at journal)) (at .counts) starts ends phases positions counts starts′ ends′ phases′ positions′
       (unitByCodes (record { phase = g .settings .phase; text = g .text; actions = g .actions }) codes (g .rules) (membersAt at journal)
       (controlsOf (structOf (at .counts) starts ends phases positions)))
   pub left-is : r ≡ leftUnder (modeUnder g (controlsOf (structOf counts starts′ ends′ phases′ positions′))) g (membersAt at journal) at gave counts

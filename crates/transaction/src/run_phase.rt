@@ -15,7 +15,9 @@ use refusals::totals;
 use report::verdicts;
 ghost use mathlib.Core.Path.{_≡_};
 ghost use Prim.Native.Nat.{_/_};
+ghost use Rattle.reading.specs.Controls.{badControls};
 ghost use Rattle.reading.specs.Records.{markerList, givenOf, lent};
+ghost use Rattle.control.specs.ControlsStruct.{controlsOf};
 ghost use Rattle.transaction.specs.RunPhase.{answerWithout, Ran};
 
 // An answer that leaves the transaction as it was.
@@ -32,17 +34,17 @@ fn as_lent(answer: u64, t: Transaction) -> Phase
 // What the transaction counts, and how many entries lists of so many numbers have.
 fn sizes_of(t: Transaction, ids: usize, entries: usize) -> Sizes
     ensures { λ r. ⌜ r ≡ record {
-      ranges = t .controls .ranges;
-      targets = t .controls .targets;
+      «bad_controls» = badControls (controlsOf (t .controls));
       «ids_used» = t .ids;
       «entries_used» = t .entries;
       ids = ids;
       entries = entries / 4;
     } ⌝ }
 {
+    let controls = t.controls;
+    let bad_controls = controls.is_bad();
     Sizes {
-        ranges: t.controls.ranges,
-        targets: t.controls.targets,
+        bad_controls,
         ids_used: t.ids,
         entries_used: t.entries,
         ids,

@@ -26,7 +26,8 @@ ghost use Prim.Native.Nat.{ℕ, _+_, _*_, _^_, _≤_, _<_, min};
 ghost use mathlib.Core.List.{List, [], _∷_};
 ghost use lib.ListN.{length, getD};
 ghost use Rattle.reading.specs.Numbers.{verdictNumber, modeOfNumber};
-ghost use Rattle.reading.specs.Controls.{isRemoved, rangeList, modeOr};
+ghost use Rattle.reading.specs.Controls.{modeOr};
+ghost use Rattle.control.specs.Halving.{foundByHalving};
 ghost use Rattle.reading.specs.Call.{noRule, recordId};
 ghost use Rattle.reading.specs.Records.{ruleList, markerList, journalList, matchedIn, givenOf};
 ghost use Rattle.reading.specs.declared.Marker.{Marker};
@@ -35,7 +36,7 @@ ghost use Rattle.reading.specs.Outcome.{atFreeEnd};
 ghost use Rattle.unit.specs.VisitRule.{foundAt};
 ghost use Rattle.transaction.specs.WalkRules.{walkLists, fresh, Ready, Walked, startOf, Room, leftUnder, UnitClosed};
 
-// Visits the rule that the walk stands at, under the held ranges, and writes it after the journal's entries.
+// Visits the rule that the walk stands at, under the held ranges, which have the merged form, and writes it after the journal's entries.
 fn visit_next<'a>(
     at: WalkState,
     rules: &[u64],
@@ -46,7 +47,7 @@ fn visit_next<'a>(
 ) -> VisitOutcome
     requires { ⌜ 2 * at .visits + 2 ≤ length (now journal) ⌝ }
     ensures { λ r. ⌜ r ≡ foundAt (ruleList (now (rules .entry))) (at .state) (at .visits)
-        (cond (isRemoved (rangeList (min (at .counts .ranges) 256) (now (starts .entry)) (now (ends .entry))) (recordId (getD (ruleList (now (rules .entry))) (at .state .next) noRule)))
+        (cond (foundByHalving (min (at .counts .ranges) 256) (now (starts .entry)) (now (ends .entry)) (recordId (getD (ruleList (now (rules .entry))) (at .state .next) noRule)))
         Verdict.Removed (verdictBy (getD (now (outcomes .entry)) (at .state .next) 0))) ⌝ }
     ensures { λ r. ⌜ now (journal .exit) ≡ atFreeEnd (2 * at .visits) (now (journal .entry)) (at .state .next ∷ verdictNumber (r .verdict) ∷ []) ⌝ }
 {
@@ -177,6 +178,7 @@ fn start(t: Transaction) -> WalkState
             settings,
             ranges: t.controls.ranges,
             targets: t.controls.targets,
+            added: false,
         },
     }
 }

@@ -1,6 +1,6 @@
 // One visit by value (engine/transaction.rs, engine/chain.rs): what is found of a rule, what becomes of the open chain, and
 // where the walk goes on.
-use control::fields;
+use control::ranges;
 use reading::Verdict;
 use reading::limits;
 use reading::widths;
@@ -9,11 +9,11 @@ ghost use mathlib.Core.Path.{_≡_};
 ghost use mathlib.Core.Bool.{Bool, false, cond};
 ghost use Prim.Native.Nat.{ℕ, min};
 ghost use lib.ListN.{getD};
-ghost use Rattle.reading.specs.Controls.{isRemoved, rangeList};
 ghost use Rattle.reading.specs.Call.{noRule, recordId};
 ghost use Rattle.reading.specs.Numbers.{verdictNumber};
 ghost use Rattle.reading.specs.Records.{ruleList};
 ghost use Rattle.reading.specs.Walk.{verdictBy};
+ghost use Rattle.control.specs.Halving.{foundByHalving};
 ghost use Rattle.unit.specs.VisitRule.{entryBy, passed, foundBy, foundAt, isError};
 
 // Where the walk stands. `next` is the index that it goes on with, so a pending skip is part of it. `first` is the place in
@@ -48,7 +48,7 @@ fn verdict(removed: bool, outcome: u8) -> Verdict
     Verdict::Matched
 }
 
-// What is found of the rule at an index, under the first `count` held ranges.
+// What is found of the rule at an index, under the first `count` held ranges, which have the merged form.
 pub fn verdict_at<'a>(
     rules: &[u64],
     outcomes: &[u8],
@@ -57,11 +57,11 @@ pub fn verdict_at<'a>(
     ends: &'a [u64; limits::RANGES],
     count: usize,
 ) -> Verdict
-    ensures { λ r. ⌜ r ≡ cond (isRemoved (rangeList (min count 256) (now (starts .entry)) (now (ends .entry))) (recordId (getD (ruleList (now (rules .entry))) index noRule)))
+    ensures { λ r. ⌜ r ≡ cond (foundByHalving (min count 256) (now (starts .entry)) (now (ends .entry)) (recordId (getD (ruleList (now (rules .entry))) index noRule)))
         Verdict.Removed (verdictBy (getD (now (outcomes .entry)) index 0)) ⌝ }
 {
     let id = rules::rule_id(rules::rule_at(rules, index));
-    let removed = fields::is_removed(starts, ends, count, id);
+    let removed = ranges::is_removed(starts, ends, count, id);
     verdict(removed, rules::outcome_at(outcomes, index))
 }
 

@@ -6,7 +6,8 @@ use tivembo::{
     MOST_RANGES,
 };
 
-/// A transaction that holds this. It counts all ranges, also where it has no place for them: 01 turns its calls away.
+/// A transaction that holds this. It has the ranges as they stand, merged or not, and counts all of them, also where it has no place
+/// for them: the papers turn its calls away.
 pub fn transaction(entry: &Entry) -> Transaction {
     let mut controls = HostControls {
         mode: entry.mode.map_or(0, |mode| 1 + mode.number()),

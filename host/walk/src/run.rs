@@ -13,6 +13,8 @@ pub struct Walked<'a> {
     pub result: Result<Phase<'a>, Refusal>,
     /// After the call.
     pub transaction: &'a Transaction,
+    /// The ranges held before the call.
+    pub before: Vec<(u64, u64)>,
     /// Whether the request was allowed before the call.
     pub allowed: bool,
     /// Whether an intervention was held before the call.
@@ -59,6 +61,7 @@ pub fn run_case<E>(case: &Case, mut print: impl FnMut(&Walked) -> Result<(), E>)
             transaction.is_allowed(),
             transaction.intervention().is_some(),
         );
+        let before = transaction.controls().ranges().collect();
         let outcomes = lent::outcomes(call);
         let result = transaction.run_phase(&rules, call.phase, mode, case.block_status, &outcomes);
         let result = result.map(|phase| (phase, phase.transaction()));
@@ -72,6 +75,7 @@ pub fn run_case<E>(case: &Case, mut print: impl FnMut(&Walked) -> Result<(), E>)
             rules: &rules,
             result,
             transaction,
+            before,
             allowed,
             held,
         })?;

@@ -7,7 +7,7 @@ use case_format::{
     Action, Answer, BodyProcessor, CallResult, Directive, Entry, Intervention, Kind, Mode,
     Operands, Rule, Stop,
 };
-use tivembo::{PassedOver, Phase, Refusal, Report, UnsupportedReason, Verdict};
+use tivembo::{PassedOver, Phase, Refusal, Report, UnsupportedReason, Verdict, MOST_RANGES};
 
 use crate::results;
 use crate::run::Walked;
@@ -35,8 +35,8 @@ pub fn print_call(out: &mut impl Write, walked: &Walked) -> Result<()> {
             print_field(out, "data", &or_dash(data, " "))?;
         }
         Err(refusal) => {
-            let number = refusal.number();
-            let line = format!("refused with {number}, nothing is changed: {refusal}");
+            let (number, why) = (refusal.number(), why_refused(walked, *refusal));
+            let line = format!("refused with {number}, nothing is changed: {why}");
             print_field(out, "answer", &line)?;
         }
     }
@@ -44,6 +44,17 @@ pub fn print_call(out: &mut impl Write, walked: &Walked) -> Result<()> {
     print_field(out, "request", &request(walked, &found))?;
     let first = passed_over(walked);
     first.map_or(Ok(()), |first| print_field(out, "ctl", &first))
+}
+
+/// Why a call was refused. Of ranges that are not merged the first that is wrong is named.
+fn why_refused(walked: &Walked, refusal: Refusal) -> String {
+    let fault = walked.transaction.controls().range_fault();
+    match fault.filter(|_| walked.ranges().len() <= MOST_RANGES) {
+        Some(fault) if refusal == Refusal::Miscounted => {
+            format!("the ranges held are not sorted and merged; {fault}")
+        }
+        _ => refusal.to_string(),
+    }
 }
 
 /// Prints what the directive reader said.

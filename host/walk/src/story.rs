@@ -1,7 +1,7 @@
 //! What happened at each rule of a call, in words. The verdicts are the journal's; the words say what follows from them.
 
 use case_format::text::range;
-use tivembo::{Act, Answer, Mode, Phase, Records, Verdict};
+use tivembo::{read_directive, Act, Answer, Directive, Mode, Phase, Records, Transaction, Verdict};
 
 use crate::lent;
 use crate::run::Walked;
@@ -21,10 +21,12 @@ pub fn story(walked: &Walked, phase: &Phase) -> Vec<Seen> {
         walked,
         phase,
         records: walked.rules.records(),
+        held: Transaction::new(),
         open: Vec::new(),
         closed: Vec::new(),
         passing: why_idle(walked),
     };
+    story.hold(&walked.before);
     let mut visits = phase.visits().peekable();
     let rules = 0..walked.call.rules.len();
     let seen = rules.map(|index| match visits.next_if(|visit| visit.0 == index) {
@@ -60,6 +62,8 @@ struct Story<'a> {
     walked: &'a Walked<'a>,
     phase: &'a Phase<'a>,
     records: Records<'a>,
+    /// Has the ranges that are held at the visit.
+    held: Transaction,
     /// The matched links that wait for their closing rule.
     open: Vec<usize>,
     /// The members of closed units.
@@ -104,23 +108,39 @@ impl Story<'_> {
         words.to_string()
     }
 
-    /// The first range that has the id was held at the visit, since ranges are only ever added at the end.
+    /// Has more ranges held. A call that is not refused has places for all of them.
+    fn hold(&mut self, ranges: &[(u64, u64)]) {
+        for (start, end) in ranges {
+            let added = self.held.remove_range(*start, *end);
+            added.expect("the call was not refused");
+        }
+    }
+
+    /// The ranges that a rule's directives add.
+    fn removals(&self, index: usize) -> Vec<(u64, u64)> {
+        let actions = self.records.actions_of(&self.records.rules[index]);
+        let removals = actions.filter_map(|act| match act {
+            Act::Ctl(name, value) => match read_directive(name, value) {
+                Ok(Directive::RuleRemoveById(ranges)) => Some(ranges),
+                _ => None,
+            },
+            _ => None,
+        });
+        removals.flatten().collect()
+    }
+
+    /// Names the range, as it is held at the visit, that has the id.
     fn removed(&mut self, index: usize, link: bool) -> String {
         let id = self.walked.call.rules[index].id;
         let has = |range: &(u64, u64)| id.is_some_and(|id| range.0 <= id && id <= range.1);
-        let range = self
-            .walked
-            .ranges()
-            .iter()
-            .find(|held| has(held))
-            .map(range);
+        let held = self.held.controls().ranges().find(has);
         let chain = match (link, self.open.is_empty()) {
             (true, _) => self.broken(index, link),
             (false, true) => String::new(),
             (false, false) => "the chain stays open".to_string(),
         };
-        let range = range.map(|range| format!("in range {range}"));
-        let parts = range.into_iter().chain(Some(chain));
+        let held = held.map(|held| format!("in range {}", range(&held)));
+        let parts = held.into_iter().chain(Some(chain));
         let told: Vec<String> = parts.filter(|part| !part.is_empty()).collect();
         told.join(", ")
     }
@@ -146,6 +166,9 @@ impl Story<'_> {
         self.passing = self.flow(unit[0], index);
         let members: Vec<String> = unit.iter().map(usize::to_string).collect();
         let effect = self.effect(unit[0], is_last);
+        for member in &unit {
+            self.hold(&self.removals(*member));
+        }
         self.closed.extend(unit);
         format!("closes unit {}{effect}", members.join(" "))
     }

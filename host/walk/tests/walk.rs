@@ -142,6 +142,126 @@ fn more_ranges_than_a_transaction_has_places() {
     assert_eq!(held, Some(format!("ranges{}", " 1-2".repeat(257)).as_str()));
 }
 
+/// A call of phase 2 on a transaction that holds these ranges, with rules that match and have one list of removed ids each.
+fn removing(held: &[(u64, u64)], rules: &[(u64, &str)]) -> String {
+    let held = held
+        .iter()
+        .map(|(start, end)| format!("entry-range {start} {end}\n"));
+    let rules = rules
+        .iter()
+        .map(|(id, ids)| format!("rule {id} matched\nctl \"ruleRemoveById\" \"{ids}\"\n"));
+    let (held, rules): (String, String) = (held.collect(), rules.collect());
+    format!("case X\nmode On\nblock-status 403\n{held}call 2\n{rules}end\n")
+}
+
+/// The answer and the ranges of a text's only call.
+fn answer_and_ranges(text: &str) -> (String, String) {
+    let output = walk(&["--results"], text);
+    let line = |word: &str| {
+        let found = out(&output).lines().find(|line| line.starts_with(word));
+        found.expect("every line is there").to_string()
+    };
+    (line("answer"), line("ranges"))
+}
+
+#[track_caller]
+fn gives(text: &str, answer: &str, ranges: &str) {
+    let found = answer_and_ranges(text);
+    assert_eq!(
+        found,
+        (format!("answer {answer}"), format!("ranges{ranges}"))
+    );
+}
+
+const MAX: u64 = u64::MAX;
+
+/// Held ranges that are not in the merged form are answered 3 and stay as they are.
+#[test]
+fn held_ranges_in_another_form() {
+    let rule = [(10, "7")];
+    gives(&removing(&[(5, 4)], &rule), "3", " 5-4");
+    gives(&removing(&[(1, 2), (3, 4)], &rule), "3", " 1-2 3-4");
+    gives(&removing(&[(4, 5), (1, 2)], &rule), "3", " 4-5 1-2");
+    gives(&removing(&[(7, 7), (7, 7)], &[]), "3", " 7-7 7-7");
+    gives(&removing(&[(1, 2), (4, 5)], &rule), "0", " 1-2 4-5 7-7");
+    let largest = format!(" 7-7 {MAX}-{MAX}");
+    gives(&removing(&[(MAX, MAX)], &rule), "0", &largest);
+}
+
+/// 8 counts the ranges as they are written, those of every rule.
+#[test]
+fn ranges_count_before_they_merge() {
+    let ones = |count: usize| vec!["1"; count].join(",");
+    let whole = format!(" 0-{MAX}");
+    gives(&removing(&[(0, MAX)], &[(10, &ones(256))]), "8", &whole);
+    let half = ones(128);
+    let twice = removing(&[(0, MAX)], &[(10, &half), (11, &half)]);
+    gives(&twice, "8", &whole);
+    gives(&removing(&[], &[(10, &ones(256))]), "0", " 1-1");
+    let full: Vec<(u64, u64)> = (0..256).map(|at| (2 * at + 1, 2 * at + 1)).collect();
+    let held: String = full.iter().map(|(id, _)| format!(" {id}-{id}")).collect();
+    gives(&removing(&full, &[(1_000, "1")]), "8", &held);
+    gives(&removing(&full[1..], &[(1_000, "1")]), "0", &held);
+    gives(&removing(&full, &[(1_000, "5-4")]), "0", &held);
+}
+
+/// The lines of a walk that begin so.
+fn shown(text: &str, word: &str) -> Vec<String> {
+    let output = walk(&[], text);
+    let lines = out(&output).lines().map(str::trim_start);
+    let lines = lines.filter(|line| line.starts_with(word));
+    lines.map(str::to_string).collect()
+}
+
+#[test]
+fn why_held_ranges_are_refused() {
+    for (held, why) in [
+        (
+            vec![(1, 2), (3, 4)],
+            "ranges 1-2 and 3-4 touch: merged they are 1-4",
+        ),
+        (
+            vec![(1, 5), (2, 3)],
+            "ranges 1-5 and 2-3 overlap: merged they are 1-5",
+        ),
+        (
+            vec![(4, 5), (1, 2)],
+            "range 1-2 stands after 4-5 and starts below it",
+        ),
+        (vec![(1, 2), (5, 4)], "range 5-4 starts above its end"),
+    ] {
+        let line = format!("answer    refused with 3, nothing is changed: the ranges held are not sorted and merged; {why}");
+        assert_eq!(shown(&removing(&held, &[]), "answer"), [line]);
+    }
+    let many: Vec<(u64, u64)> = vec![(1, 2); 257];
+    let line = shown(&removing(&many, &[]), "answer").remove(0);
+    assert!(line.contains("counts more than 256 ranges"), "{line}");
+}
+
+/// A removed rule names the range that had its id at its visit, merged from those added before it.
+#[test]
+fn the_range_of_a_removed_rule() {
+    let rules = [
+        (5, "8-9"),
+        (8, ""),
+        (6, ""),
+        (4, "10,20"),
+        (10, ""),
+        (20, ""),
+        (30, "11-19"),
+    ];
+    let text = removing(&[(6, 7)], &rules);
+    let output = walk(&[], &text);
+    let removed = out(&output).lines().filter_map(|line| {
+        let at = line.find("removed  in range ")?;
+        Some(line[at..].to_string())
+    });
+    let expected = ["6-9", "6-9", "6-10", "20-20"];
+    let expected = expected.map(|range| format!("removed  in range {range}"));
+    assert_eq!(removed.collect::<Vec<_>>(), expected);
+    assert_eq!(shown(&text, "controls"), ["controls  range 6-20"]);
+}
+
 #[test]
 fn calls_of_one_case_go_on_with_one_transaction() {
     let text = "case X\nmode On\nblock-status 403\nentry-body-access Off\nentry-body-processor XML\n\
@@ -237,12 +357,14 @@ fn directives_that_do_not_count() {
 /// docs/READING.md has these walks as the program prints them.
 #[test]
 fn the_walks_of_the_page() {
-    let output = program().arg(cases("passed-over.cases")).output();
-    let output = output.expect("the program starts");
-    assert!(output.status.success());
     let page = std::fs::read_to_string(cases("../docs/READING.md")).unwrap();
-    let walks = format!("```\n{}```\n", out(&output));
-    assert!(page.contains(&walks), "{walks}");
+    for name in ["passed-over.cases", "merged-ranges.cases"] {
+        let output = program().arg(cases(name)).output();
+        let output = output.expect("the program starts");
+        assert!(output.status.success());
+        let walks = format!("```\n{}```\n", out(&output));
+        assert!(page.contains(&walks), "{walks}");
+    }
 }
 
 /// Each reason as results have it, and in the walk with its sentence.

@@ -20,33 +20,34 @@ const FIRST_ID: u64 = 500_000;
 const BELOW: u64 = 100_000;
 const ABOVE: u64 = 900_000;
 
+/// What [`both_sides`] is.
+pub const BOTH_SIDES: &str = "256 ranges, half below and half above all ids";
+
 pub fn all() -> Vec<Measured> {
     [without_match(), with_matches()].concat()
 }
 
 fn without_match() -> Vec<Measured> {
     let cases = [
-        ("512-no-ranges", "no ranges", Vec::new()),
+        ("512-no-ranges", "no ranges", 15.0, Vec::new()),
         (
             "512-ranges-above",
             "256 ranges above all ids",
-            ranges(ABOVE),
+            60.0,
+            ranges(ABOVE, 256),
         ),
         (
             "512-ranges-below",
             "256 ranges below all ids",
-            ranges(BELOW),
+            60.0,
+            ranges(BELOW, 256),
         ),
-        (
-            "512-ranges-in-turn",
-            "256 ranges below and above in turn",
-            in_turn(),
-        ),
+        ("512-ranges-in-turn", BOTH_SIDES, 60.0, both_sides()),
     ];
-    let measured = cases.map(|(name, what, ranges)| Measured {
+    let measured = cases.map(|(name, what, bound, ranges)| Measured {
         name,
         what: format!("512 rules, no match, {what}"),
-        bound: 15.0,
+        bound,
         case: missed(512, ranges),
     });
     measured.to_vec()
@@ -95,20 +96,16 @@ fn missed_rule(rules: &mut Builder, index: u64) {
     rules.rule(Some(id), false, &[Act::Id(id), Act::Deny]);
 }
 
-/// 256 ranges of one to four ids each.
-fn ranges(from: u64) -> Vec<(u64, u64)> {
-    (0..256)
+/// So many ranges of one to four ids each, in the form in which they are held.
+fn ranges(from: u64, count: u64) -> Vec<(u64, u64)> {
+    (0..count)
         .map(|k| (from + 10 * k, from + 10 * k + k % 4))
         .collect()
 }
 
-/// 256 ranges, every second of them above all ids.
-pub fn in_turn() -> Vec<(u64, u64)> {
-    let both = ranges(BELOW).into_iter().zip(ranges(ABOVE));
-    let in_turn = both.enumerate();
-    in_turn
-        .map(|(k, (below, above))| if k % 2 == 0 { below } else { above })
-        .collect()
+/// 256 ranges: the ids lie between the two in the middle.
+pub fn both_sides() -> Vec<(u64, u64)> {
+    [ranges(BELOW, 128), ranges(ABOVE, 128)].concat()
 }
 
 /// Of 64 rules the ten at 3, 9, 15 and on to 57 match; they have pass and one ctl action.

@@ -3,7 +3,7 @@
 use beside::case::Case;
 use beside::found::differing;
 use beside::ours::Ours;
-use oracle::{run_case, Missed, Timed};
+use oracle::{Missed, Run, Timed};
 
 use crate::gateway::{Gateway, Results};
 
@@ -11,8 +11,9 @@ use crate::gateway::{Gateway, Results};
 pub fn check(case: &Case) {
     let call = &case.calls[0];
     let given = case.written("checked");
-    let found = run_case(&given).calls.remove(0);
-    let (ours, faults) = Ours::new(case).call(call);
+    let mut run = Run::new(given.mode, given.block_status, &given.entry);
+    let found = run.call(&given.calls[0]);
+    let (ours, faults) = Ours::new(case).call(call, found.ranges != given.entry.ranges);
     let differing = differing(&found, &ours);
     assert!(differing.is_empty(), "the sides differ in {differing:?}");
     assert!(faults.is_empty(), "wrong with our side: {faults:?}");

@@ -19,8 +19,8 @@ pub fn print(file: &Path) -> io::Result<()> {
     );
     let without = grown(&[]);
     table("no ranges", &without);
-    let with = grown(&cases::in_turn());
-    table("256 ranges below and above in turn", &with);
+    let with = grown(&cases::both_sides());
+    table(cases::BOTH_SIDES, &with);
     fs::write(file, plot::drawn(&lines(&without, &with)))?;
     println!("  drawn in {}", file.canonicalize()?.display());
     Ok(())

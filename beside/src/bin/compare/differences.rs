@@ -16,6 +16,8 @@ const SHOWN: usize = 5;
 
 const UNWRITTEN: &str =
     "# It differs as lent, with actions or texts that rules share. As written and read it does not differ.";
+const REFUSED: &str =
+    "# The papers refuse a call of it. The Rust refuses none, so that `oracle/run` answers otherwise.";
 const GAVE: &str =
     "# What the calls gave. A line is marked with its side where not all sides have it:";
 
@@ -59,11 +61,7 @@ fn ran(case: &Case, planted: Option<Reading>) -> Option<Vec<Ran>> {
     let mut sides = Sides::new(case, planted);
     let mut made = Vec::new();
     for call in &case.calls {
-        let directives = directives(call);
-        if sides.is_refused(call, &directives) {
-            continue;
-        }
-        let ran = sides.call(call, &directives);
+        let ran = sides.call(call, &directives(call));
         let differs = !ran.differing.is_empty();
         made.push(ran);
         if differs {
@@ -114,6 +112,9 @@ impl Difference {
         if self.case.as_read() != self.case {
             lines.push(UNWRITTEN.to_string());
         }
+        if self.ran.iter().any(Ran::is_refused) {
+            lines.push(REFUSED.to_string());
+        }
         lines.push(case(&self.case, &format!("difference-{number}")));
         lines.push(GAVE.to_string());
         lines.extend(self.ran.iter().flat_map(|ran| gave(ran, is_planted)));
@@ -124,7 +125,8 @@ impl Difference {
 /// What a call gave, as comments.
 fn gave(ran: &Ran, is_planted: bool) -> Vec<String> {
     let other = if is_planted { "planted" } else { "ours" };
-    let mut sides = vec![("rust", &ran.rust), (other, &ran.other)];
+    let first = if ran.is_refused() { "papers" } else { "rust" };
+    let mut sides = vec![(first, &ran.rust), (other, &ran.other)];
     sides.extend(ran.model.iter().map(|model| ("model", model)));
     let printed: Vec<Vec<String>> = sides.iter().map(|(_, side)| side.lines()).collect();
     let mut lines = Vec::new();
@@ -158,7 +160,7 @@ fn agree(ran: &Ran, word: &str) -> bool {
 mod tests {
     use super::*;
     use beside::case::{outcome, Call};
-    use case_format::{Item, Reader, Verdict};
+    use case_format::{Answer, Item, Reader, Verdict};
     use tivembo::{Action, Rule};
 
     /// What three sides gave, changed in some of them.
@@ -169,6 +171,8 @@ mod tests {
         Ran {
             before: Default::default(),
             rust,
+            plain: Vec::new(),
+            plain_before: 0,
             other,
             model: Some(model),
             differing: vec!["ids".to_string()],
@@ -211,6 +215,23 @@ mod tests {
             "# rust    visits",
             "# ours    visits 0:removed",
             "# model   visits",
+        ];
+        assert_eq!(marks(&one), lines);
+    }
+
+    /// The Rust has no answer for a call that the papers refuse.
+    #[test]
+    fn refused_calls_are_the_papers() {
+        let one = ran(|rust, other, model| {
+            for side in [rust, model] {
+                side.answer = Answer::Refused(3);
+            }
+            other.answer = Answer::Done;
+        });
+        let lines = [
+            "# papers  answer 3",
+            "# ours    answer 0",
+            "# model   answer 3",
         ];
         assert_eq!(marks(&one), lines);
     }

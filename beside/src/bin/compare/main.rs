@@ -114,10 +114,6 @@ fn print(options: Options, report: &Report) -> bool {
         return false;
     }
     report.table.print();
-    println!(
-        "{:>10}  left out: 01 refuses the call for its ranges or targets",
-        report.left_out
-    );
     let missing = report.table.missing();
     let is_wrong = options.calls >= FULL && !missing.is_empty();
     if is_wrong {

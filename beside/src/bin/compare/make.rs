@@ -1,6 +1,8 @@
-//! Random cases. All are well-formed; where 01 turns a call away for its ranges or targets, it is left out later.
+//! Random cases. All records are well-formed, and no call is refused but for ranges held that are not in the merged form, for its
+//! own ranges or for its targets.
 
 mod ctl;
+mod held;
 mod limits;
 mod rules;
 mod texts;
@@ -92,12 +94,11 @@ fn status(random: &mut Random) -> u16 {
 }
 
 fn entry(random: &mut Random) -> Entry {
-    let ranges = random.pick(&[0, 0, 0, 0, 1, 1, 2, 4]);
     Entry {
         mode: setting(random, Mode::ALL),
         body_access: setting(random, &[true, false]),
         body_processor: setting(random, BodyProcessor::ALL),
-        ranges: (0..ranges).map(|_| range(random)).collect(),
+        ranges: held::ranges(random),
         allowed: random.once_in(60),
         stopped: random.once_in(60),
     }
@@ -106,16 +107,6 @@ fn entry(random: &mut Random) -> Entry {
 /// Once in four times one of the values.
 fn setting<T: Copy>(random: &mut Random, values: &[T]) -> Option<T> {
     random.once_in(4).then(|| random.pick(values))
-}
-
-/// A range as a host may hold it: 01 does not look whether it starts above its end.
-fn range(random: &mut Random) -> (u64, u64) {
-    let (a, b) = (id(random), id(random));
-    match random.below(10) {
-        0 => (a.max(b), a.min(b)),
-        1..=4 => (a, a),
-        _ => (a.min(b), a.max(b)),
-    }
 }
 
 /// Ids that meet each other often, and the ends of all numbers.

@@ -3,7 +3,9 @@
 mod controls;
 mod entry;
 mod flow;
+mod ranges;
 mod records;
+mod refused;
 mod stops;
 mod table;
 mod unsupported;
@@ -13,7 +15,7 @@ mod walked;
 use beside::case::{Call, Case};
 use case_format::CallResult;
 
-use crate::sides::{Before, Directives};
+use crate::sides::{Before, Directives, Ran};
 
 pub use table::{Feature, Table, FULL};
 use walked::Walked;
@@ -25,6 +27,10 @@ pub struct Seen<'a> {
     pub directives: &'a Directives,
     pub before: &'a Before,
     pub rust: &'a CallResult,
+    /// The ranges as the Rust holds them after it, each as it was added.
+    pub plain: &'a [(u64, u64)],
+    plain_before: usize,
+    is_refused: bool,
     walked: Walked,
 }
 
@@ -65,19 +71,17 @@ impl Marks {
 }
 
 impl<'a> Seen<'a> {
-    pub fn new(
-        case: &'a Case,
-        call: &'a Call,
-        directives: &'a Directives,
-        before: &'a Before,
-        rust: &'a CallResult,
-    ) -> Self {
+    pub fn new(case: &'a Case, call: &'a Call, directives: &'a Directives, ran: &'a Ran) -> Self {
+        let (before, rust) = (&ran.before, &ran.rust);
         Self {
             case,
             call,
             directives,
             before,
             rust,
+            plain: &ran.plain,
+            plain_before: ran.plain_before,
+            is_refused: ran.is_refused(),
             walked: Walked::of(case, call, directives, before, rust),
         }
     }
@@ -85,14 +89,24 @@ impl<'a> Seen<'a> {
     /// All that the call reached.
     pub fn marks(&self) -> Marks {
         let mut marks = Marks::default();
+        if self.is_refused {
+            refused::mark(self, &mut marks);
+            return marks;
+        }
         entry::mark(self, &mut marks);
         walk::mark(self, &mut marks);
         flow::mark(self, &mut marks);
         controls::mark(self, &mut marks);
+        ranges::mark(self, &mut marks);
         stops::mark(self, &mut marks);
         records::mark(self, &mut marks);
         unsupported::mark(self, &mut marks);
         marks
+    }
+
+    /// The ranges that the call added, as written.
+    fn added(&self) -> &'a [(u64, u64)] {
+        &self.plain[self.plain_before..]
     }
 
     /// The last of a rule's actions that is of one of these kinds.
@@ -112,4 +126,11 @@ impl<'a> Seen<'a> {
             .filter(|action| kinds.contains(&action.kind))
             .count()
     }
+}
+
+/// Whether ranges have an id.
+fn has(ranges: &[(u64, u64)], id: u64) -> bool {
+    ranges
+        .iter()
+        .any(|(start, end)| (*start..=*end).contains(&id))
 }

@@ -79,17 +79,20 @@ fn taken(count: usize, seed: u64) -> (Vec<Taken>, Vec<&'static str>) {
         if taken.len() >= count && short.is_empty() {
             break;
         }
-        let case = match at % 100 {
-            0 => make::at_limits(&mut random, 1),
+        let mut case = match at % 100 {
+            0 => make::at_limits(&mut random, at / 100),
             _ => make::case(&mut random),
         };
         let is_first = at < SMALLEST_FIRST;
         if !is_within(&case, if is_first { &SMALLEST } else { &LARGEST }) {
             continue;
         }
-        let Some((found, marks)) = run(&case) else {
+        let (found, marks) = run(&case);
+        // The Rust refuses no call, so that a case ends before the first one that is refused.
+        case.calls.truncate(found.len());
+        if case.calls.is_empty() {
             continue;
-        };
+        }
         let is_wanted = marks.iter().any(|line| short.contains(&line));
         let is_small = short.is_empty() && is_within(&case, &SMALLEST);
         if is_wanted || is_small {
@@ -111,20 +114,20 @@ fn is_within(case: &Case, size: &Size) -> bool {
     })
 }
 
-/// The Rust's results and what the case reached; none where 01 turns a call away.
-fn run(case: &Case) -> Option<(Vec<CallResult>, Marks)> {
+/// The Rust's results up to the first call that is refused, and what was reached.
+fn run(case: &Case) -> (Vec<CallResult>, Marks) {
     let mut sides = Sides::new(case, None);
     let (mut found, mut all) = (Vec::new(), Marks::default());
     for call in &case.calls {
         let directives = directives(call);
-        if sides.is_refused(call, &directives) {
-            return None;
-        }
         let ran = sides.call(call, &directives);
         assert!(ran.differing.is_empty(), "a difference: run compare first");
-        let seen = Seen::new(case, call, &directives, &ran.before, &ran.rust);
+        if ran.is_refused() {
+            break;
+        }
+        let seen = Seen::new(case, call, &directives, &ran);
         all.add(&seen.marks());
         found.push(ran.rust);
     }
-    Some((found, all))
+    (found, all)
 }

@@ -31,7 +31,6 @@ pub struct Options {
 #[derive(Default)]
 pub struct Report {
     pub table: Table,
-    pub left_out: u64,
     pub differences: u64,
     /// The differences that are looked at.
     pub found: Vec<Found>,
@@ -47,7 +46,6 @@ pub struct Found {
 impl Report {
     fn add(&mut self, other: Report) {
         self.table.add(&other.table);
-        self.left_out += other.left_out;
         self.differences += other.differences;
         let mut found = std::mem::take(&mut self.found);
         found.extend(other.found);
@@ -105,17 +103,13 @@ fn run_block(options: Options, block: u64) -> Report {
 fn run_case(options: Options, block: u64, case: &Case, left: &mut u64, report: &mut Report) {
     let mut sides = Sides::new(case, options.planted);
     for (at, call) in case.calls.iter().enumerate() {
-        let directives = directives(call);
-        if sides.is_refused(call, &directives) {
-            report.left_out += 1;
-            continue;
-        }
         if *left == 0 {
             return;
         }
         *left -= 1;
+        let directives = directives(call);
         let ran = sides.call(call, &directives);
-        let seen = Seen::new(case, call, &directives, &ran.before, &ran.rust);
+        let seen = Seen::new(case, call, &directives, &ran);
         report.table.count(&seen.marks());
         if !ran.differing.is_empty() {
             report.differences += 1;

@@ -10,7 +10,7 @@ use tivembo::{Action, Part};
 type Edit = fn(&Case, usize) -> Option<Case>;
 
 /// Each makes less of something, so that no two undo each other.
-const EDITS: [Edit; 20] = [
+const EDITS: [Edit; 21] = [
     as_read,
     without_call,
     without_rules,
@@ -26,6 +26,7 @@ const EDITS: [Edit; 20] = [
     without_id,
     without_outcome,
     without_text,
+    without_part,
     without_length,
     without_blanks,
     without_name,
@@ -243,6 +244,27 @@ fn without_text(case: &Case, at: usize) -> Option<Case> {
     })
 }
 
+/// With a directive's list without its first or its last part.
+fn without_part(case: &Case, at: usize) -> Option<Case> {
+    let things = |call: &Call| {
+        let is_list = |action: &Action| call.text(action.value).contains(&b',');
+        places(&call.actions, |action| {
+            action.kind == kind::CTL && is_list(action)
+        })
+    };
+    edited(case, at / 2, things, |call, action| {
+        let list = call.text(call.actions[action].value);
+        let (mut places, is_comma) = (0..list.len(), |at: &usize| list[*at] == b',');
+        let kept = match at.is_multiple_of(2) {
+            true => places.find(is_comma).map_or(0, |first| first + 1)..list.len(),
+            false => 0..places.rfind(is_comma).unwrap_or(0),
+        };
+        let value = &mut call.actions[action].value;
+        value.start += kept.start as u64;
+        value.len = kept.len() as u64;
+    })
+}
+
 /// With a byte less at the start or the end of a text.
 fn without_length(case: &Case, at: usize) -> Option<Case> {
     let shorter = |part: &mut Part, from_start: bool| {
@@ -365,6 +387,23 @@ mod tests {
         let small = shrunk_text(large, |case| has(case, kind::CTL, 3) && sets_a_mode(case));
         let rule = "call 1; rule - matched;   pass;   msg \"\"";
         assert_eq!(small, format!("{rule};   ctl \"ruleEngine\" \"\"; end"));
+    }
+
+    /// Where a byte less at either end would leave a list of other parts.
+    #[test]
+    fn a_list_loses_its_first_and_last_parts() {
+        let large = case(&[&[Act::Ctl(b"ruleRemoveById", b"30-40,7,8,19-20")]]);
+        let parts: [&[u8]; 4] = [b"30-40", b"7", b"8", b"19-20"];
+        let has_7_and_8 = |case: &Case| {
+            let value = has(case, kind::CTL, 1).then(|| case.calls[0].actions[0].value);
+            value.is_some_and(|value| {
+                let list: Vec<&[u8]> = case.calls[0].text(value).split(|b| *b == b',').collect();
+                let is_among = list.iter().all(|part| parts.contains(part));
+                is_among && list.contains(&parts[1]) && list.contains(&parts[2])
+            })
+        };
+        let small = shrunk_text(large, has_7_and_8);
+        assert_eq!(small, "call 1; rule - matched;   ctl \"\" \"7,8\"; end");
     }
 
     #[test]

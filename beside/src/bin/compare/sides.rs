@@ -4,11 +4,11 @@ use beside::case::{Call, Case};
 use beside::found::differing;
 use beside::model::{Model, Reading};
 use beside::ours::Ours;
-use case_format::{CallResult, Mode, Stop, Verdict};
+use case_format::{Answer, BodyProcessor, CallResult, Mode, Stop, Verdict};
 use oracle::{CtlDirective, Run};
 
 /// 01's refusals 8 and 9.
-const MOST_RANGES: usize = 256;
+pub const MOST_RANGES: usize = 256;
 const MOST_TARGETS: usize = 64;
 
 /// Three transactions that stand alike.
@@ -27,6 +27,9 @@ pub struct Before {
     /// Of the call before, 0 where there is none.
     pub phase: u64,
     pub mode: Option<Mode>,
+    pub body_access: Option<bool>,
+    pub body_processor: Option<BodyProcessor>,
+    /// In the merged form, unless the case begins with others.
     pub ranges: Vec<(u64, u64)>,
     pub targets: usize,
     pub allowed: bool,
@@ -38,13 +41,23 @@ pub struct Before {
 /// One call on all sides.
 pub struct Ran {
     pub before: Before,
+    /// The Rust's; of a refused call what the papers say, since the Rust refuses none.
     pub rust: CallResult,
+    /// The ranges as the Rust then holds them, and how many of them it held before.
+    pub plain: Vec<(u64, u64)>,
+    pub plain_before: usize,
     /// The proved library, or what was planted in its place.
     pub other: CallResult,
     /// The model, where it is not what was planted.
     pub model: Option<CallResult>,
     /// In what they differ, as sentences.
     pub differing: Vec<String>,
+}
+
+impl Ran {
+    pub fn is_refused(&self) -> bool {
+        matches!(self.rust.answer, Answer::Refused(_))
+    }
 }
 
 /// What the published reader makes of each action, none where it is no ctl.
@@ -56,6 +69,30 @@ pub fn directives(call: &Call) -> Directives {
         is_ctl.then(|| oracle::directive(call.text(action.text), call.text(action.value)))
     };
     call.actions.iter().map(read).collect()
+}
+
+/// The ranges of all rules' supported ruleRemoveById actions as written, and how many targets they have, "counted rule by rule".
+pub fn written(call: &Call, directives: &Directives) -> (Vec<(u64, u64)>, usize) {
+    let (mut ranges, mut targets) = (Vec::new(), 0);
+    for index in 0..call.rules.len() {
+        for directive in directives[call.places_of(index)].iter().flatten() {
+            match directive {
+                CtlDirective::RuleRemoveById(added) => {
+                    ranges.extend(added.iter().map(|range| range.ends()));
+                }
+                CtlDirective::RuleRemoveTargetById { .. } => targets += 1,
+                _ => {}
+            }
+        }
+    }
+    (ranges, targets)
+}
+
+/// Whether ranges are in the form in which 02 has them held.
+fn is_merged(ranges: &[(u64, u64)]) -> bool {
+    let is_before = |one: (u64, u64), next: (u64, u64)| one.1 < next.0 && next.0 - one.1 > 1;
+    let rises = ranges.windows(2).all(|two| is_before(two[0], two[1]));
+    rises && ranges.iter().all(|(start, end)| start <= end)
 }
 
 /// The unsupported directive that a call told, with its value: the first one of the rule that it named.
@@ -82,6 +119,8 @@ impl Sides {
                 calls: 0,
                 phase: 0,
                 mode: entry.mode,
+                body_access: entry.body_access,
+                body_processor: entry.body_processor,
                 ranges: entry.ranges.clone(),
                 targets: 0,
                 allowed: entry.allowed,
@@ -91,51 +130,81 @@ impl Sides {
         }
     }
 
-    /// Whether 01 turns a call away that is well-formed: by 8 or 9, "counted rule by rule".
-    pub fn is_refused(&self, call: &Call, directives: &Directives) -> bool {
-        let (mut ranges, mut targets) = (self.before.ranges.len(), self.before.targets);
-        for index in 0..call.rules.len() {
-            for directive in directives[call.places_of(index)].iter().flatten() {
-                match directive {
-                    CtlDirective::RuleRemoveById(added) => ranges += added.len(),
-                    CtlDirective::RuleRemoveTargetById { .. } => targets += 1,
-                    _ => {}
-                }
-            }
+    /// The number with which the papers turn a call away that is well-formed: 3 for the form of the ranges held, 8 or 9.
+    fn refusal(&self, call: &Call, directives: &Directives) -> Option<u64> {
+        let held = &self.before;
+        if !is_merged(&held.ranges) {
+            return Some(3);
         }
-        ranges > MOST_RANGES || targets > MOST_TARGETS
+        let (ranges, targets) = written(call, directives);
+        if held.ranges.len() + ranges.len() > MOST_RANGES {
+            return Some(8);
+        }
+        (held.targets + targets > MOST_TARGETS).then_some(9)
     }
 
-    /// Makes the call on all sides.
+    /// What the papers say of a refused call: everything is as it was.
+    fn refused(&self, phase: u64, number: u64) -> CallResult {
+        let held = &self.before;
+        CallResult {
+            answer: Answer::Refused(number),
+            mode: held.mode,
+            body_access: held.body_access,
+            body_processor: held.body_processor,
+            ranges: held.ranges.clone(),
+            allowed: held.allowed,
+            intervention: if held.stopped { Stop::Held } else { Stop::No },
+            ..CallResult::empty(phase)
+        }
+    }
+
+    /// Makes the call on all sides. The Rust is not asked for one that the papers refuse.
     pub fn call(&mut self, call: &Call, directives: &Directives) -> Ran {
-        let rust = self.rust.call(&call.written());
+        let plain_before = self.rust.plain_ranges().len();
+        let rust = match self.refusal(call, directives) {
+            None => self.rust.call(&call.written()),
+            Some(number) => self.refused(call.phase, number),
+        };
+        let plain = self.rust.plain_ranges();
         let model = self.model.call(call);
         let (other, model, differing) = if self.is_planted {
             let differing = named("", differing(&rust, &model));
             (model, None, differing)
         } else {
-            let (ours, faults) = self.ours.call(call);
+            let (ours, faults) = self.ours.call(call, plain.len() > plain_before);
             let differing = self.differing(call, &rust, &model, &ours, faults);
             (ours, Some(model), differing)
         };
-        let mut told_before = self.before.told.clone();
-        told_before.extend(told(call, directives, &rust));
-        let after = Before {
-            calls: self.before.calls + 1,
-            phase: call.phase,
-            mode: rust.mode,
-            ranges: rust.ranges.clone(),
-            targets: self.before.targets + rust.targets.len(),
-            allowed: rust.allowed,
-            stopped: rust.intervention != Stop::No,
-            told: told_before,
-        };
+        let after = self.after(call, directives, &rust);
         Ran {
             before: std::mem::replace(&mut self.before, after),
             rust,
+            plain,
+            plain_before,
             other,
             model,
             differing,
+        }
+    }
+
+    /// What the Rust holds after a call. After a refused one it is as if that had not been made.
+    fn after(&self, call: &Call, directives: &Directives, rust: &CallResult) -> Before {
+        let mut after = self.before.clone();
+        if let Answer::Refused(_) = rust.answer {
+            return after;
+        }
+        after.told.extend(told(call, directives, rust));
+        Before {
+            calls: after.calls + 1,
+            phase: call.phase,
+            mode: rust.mode,
+            body_access: rust.body_access,
+            body_processor: rust.body_processor,
+            ranges: rust.ranges.clone(),
+            targets: after.targets + rust.targets.len(),
+            allowed: rust.allowed,
+            stopped: rust.intervention != Stop::No,
+            told: after.told,
         }
     }
 

@@ -18,6 +18,8 @@ use Rattle.reading.specs.Outcome.{Outcome, visitsOf, outcomeOf, transactionAfte
 use Rattle.lists.proofs.RecordLaws.{length-markers}
 use Rattle.lists.proofs.Tests.{or-false-is}
 use Rattle.control.specs.ControlsStruct.{Became}
+use Rattle.control.proofs.state.HeldLaws.{true-false}
+use Rattle.apply.specs.AddedRanges.{addsRanges}
 use Rattle.control.proofs.Determined.{SameSizes, determined}
 use Rattle.refusals.specs.declared.first.Counts.{Counts}
 use Rattle.refusals.specs.declared.first.Sizes.{Sizes}
@@ -189,19 +191,22 @@ kept-transaction p e =
 -- the transaction after a call without a visit is the one before it
 unmoved : (g : Given) (t : Transaction) (l : LentLists) (r : Phase) (l′ : LentLists) → SameSizes (r .transaction .controls) (t .controls)
     → Ran g t l r l′ → r .answer .visits ≡ 0 → r .transaction ≡ t
+unfolding outcomeOf
 unmoved g t l r l′ sizes ran none =
     let p = callOf g t l in
     let same : transactionOf t ≡ outcomeOf p .transaction
     = kept-transaction p (ap (λ (o : Outcome). o .visits) (sym (ran .outcome)) ∙ none) in
     let found : transactionOf (r .transaction) ≡ transactionOf t = ap (λ (o : Outcome). o .transaction) (ran .outcome) ∙ sym same in
-    let stays : Became (t .controls) (t .controls) (outcomeOf p .transaction .controls) = record {
+    let none-visited : visitsOf p ≡ [] = no-entries (visitsOf p) (ap (λ (o : Outcome). o .visits) (sym (ran .outcome)) ∙ none) in
+    let adds : Bool = addsRanges g (visitsOf p) in
+    let stays : Became adds (t .controls) (t .controls) (outcomeOf p .transaction .controls) = record {
       meaning = ap (λ (x : reading.Transaction). x .controls) same;
-      starts = refl;
-      ends = refl;
+      kept = λ z. record { count = refl; starts = refl; ends = refl };
+      cleared = λ z. absurd (true-false (sym z ∙ ap (addsRanges g) none-visited));
       phases = refl;
       positions = refl;
     } in
-    let controls = determined (t .controls) (r .transaction .controls) (t .controls) (outcomeOf p .transaction .controls) sizes (ran .controls) stays in
+    let controls = determined adds (t .controls) (r .transaction .controls) (t .controls) (outcomeOf p .transaction .controls) sizes (ran .controls) stays in
     λ i. record {
       controls = controls i;
       allowed = found i .allowed;

@@ -22,6 +22,7 @@ use Rattle.reading.specs.Demand3.{Demand3}
 use Rattle.lists.proofs.RecordLaws.{records-cons}
 use Rattle.theorems.specs.Demands.{demand3}
 use Rattle.control.specs.ControlsStruct.{Became}
+use Rattle.apply.specs.AddedRanges.{addsRanges}
 use Rattle.abi.specs.MarkerWords.{markerWords, wordsOf}
 use Rattle.transaction.specs.declared.types.Transaction.{Transaction}
 use Rattle.transaction.specs.declared.types.Phase.{Phase}
@@ -124,7 +125,10 @@ module _ (call : CallSettings) (rules actions text outcomes : List ℕ) (t : Tra
         data-numbers = ran .data-numbers
             ∙ ap (λ (vs : List Visit). atFreeEnd (4 * t .entries) (l .entries) (dataWords (dataOf (given ms) vs))) none
             ∙ sym (ap (λ (vs : List Visit). atFreeEnd (4 * t .entries) (l .entries) (dataWords (dataOf (given ms′) vs))) none′);
-        controls = subst (λ (o : Outcome). Became (t .controls) (r .transaction .controls) (o .transaction .controls)) same (ran .controls);
+        controls = subst (λ (b : Bool). Became b (t .controls) (r .transaction .controls) (outcomeOf q′ .transaction .controls))
+            (ap (addsRanges (given ms)) none ∙ sym (ap (addsRanges (given ms′)) none′))
+            (subst (λ (o : Outcome). Became (addsRanges (given ms) (visitsOf q)) (t .controls) (r .transaction .controls) (o .transaction .controls)) same
+            (ran .controls));
         refused = λ n. ran .refused away;
         demand3 = subst (λ (o : Outcome). Demand3 q′ o) (sym found) (demand3 q′);
       }

@@ -1,12 +1,12 @@
--- Without code: where nothing exceeds a limit, a unit's codes do what its directives do; a unit without a change leaves the
--- controls; and no unit takes a range or a target away. Assumes nothing.
+-- Without code: where what is held and what its directives give is within the limits, a unit's codes do what its directives do; a unit
+-- without a change leaves the controls; and no unit takes a target away. Assumes nothing.
 use Prim.Native.Nat.{ℕ, zero, suc, _+_, _-_, _≤_, _<_, min}
-use mathlib.Core.Path.{_≡_, refl, sym, ap, subst, _∙_}
+use mathlib.Core.Path.{_≡_, refl, sym, ap, ap₂, subst, _∙_}
 use mathlib.Core.Bool.{Bool, true, false, not, cond, _||_}
 use mathlib.Core.List.{List, [], _∷_, _++_, map}
 use native.Mathlib.Omega.{arith}
 use native.Mathlib.Numerals.{add-one}
-use borrow.Author.Tests.{le-ltb, le-leb, lt-leb, ne-eqb, ltb-false}
+use borrow.Author.Tests.{lt-ltb, le-ltb, le-leb, lt-leb, ne-eqb, ltb-false}
 use lib.Dec.{eqb, ltb}
 use lib.ListN.{length, take, drop, getD, replicate, length-append}
 use lib.Seq.{drop-drop, getD-drop}
@@ -18,7 +18,7 @@ use Rattle.reading.specs.declared.RuleEngineMode.{RuleEngineMode}
 use Rattle.reading.specs.declared.BodyAccess.{BodyAccess}
 use Rattle.reading.specs.declared.BodyProcessor.{BodyProcessor}
 use Rattle.reading.specs.declared.UnsupportedReason.{UnsupportedReason}
-use Rattle.reading.specs.Lists.{any, keep, over}
+use Rattle.reading.specs.Lists.{any, keep, total, over}
 use Rattle.reading.specs.Text.{ascii, same, partOf, trim, fold, holdsByte, cutBefore, cutAfter}
 use Rattle.reading.specs.Directive.{
   Directive,
@@ -36,19 +36,31 @@ use Rattle.reading.specs.Directive.{
   otherNamed,
   directiveOf,
   rangesOf,
+  rangeCount,
+  targetCount,
   withoutLists,
 }
-use Rattle.reading.specs.Controls.{Controls, withRanges, withTargets, addRanges, addTarget, withAllRanges, withTarget, applied}
-use Rattle.reading.specs.Controls.{beyondLimits, addRangesAnswer, addTargetAnswer}
+use Rattle.reading.specs.Ranges.{addRanges}
+use Rattle.reading.specs.Controls.{Controls, withRanges, withTargets, addTarget, applied}
 use Rattle.reading.specs.Actions.{Placed, placedFrom, actionsOf, controlsIn, directiveIn}
 use Rattle.reading.specs.Call.{Given, noRule, ruleAt, actionsAt}
 use Rattle.reading.specs.Units.{actionControls, ruleControls, unitControls}
 use Rattle.reading.specs.Walk.{noAction}
+use Rattle.reading.specs.Refusals.{ruleTotal}
 use Rattle.apply.specs.Codes.{codeOf, codeAt, codesOf}
-use Rattle.apply.specs.UnitChanges.{ruleChanges, unitChanges}
+use Rattle.control.specs.declared.state.Controls as held
+use Rattle.control.specs.ControlsStruct.{controlsOf}
+use Rattle.apply.specs.UnitChanges.{ruleChanges, unitChanges, ruleAdds, unitAdds}
+use Rattle.apply.specs.AddedRanges.{isRemoval, memberRemoves, unitRemoves}
+use Rattle.apply.specs.Append.{Changed}
+use Rattle.apply.proofs.append.ChangedLaws.{changed-same, changed-as}
 use Rattle.apply.proofs.changes.CodeLaws.{isChange}
 use Rattle.apply.specs.UnitCodes.{Source, appliedCode, appliedCodes, ruleByCodes, unitByCodes}
-use Rattle.apply.proofs.run.StepLaws.{Grown, grown-same, grown-then}
+use Rattle.theorems.specs.WithinLimits.{Counted, ranges-counted, targets-counted, member-count}
+use Rattle.apply.specs.Append.{targetIfRoom, rangesIfRoom}
+use Rattle.lists.proofs.Tests.{or-false-is, any-append}
+use Rattle.apply.proofs.run.StepLaws.{Grown}
+use Rattle.apply.proofs.run.RuleLaws.{isAdding}
 
 -- A CODE THAT CHANGES NOTHING
 
@@ -102,34 +114,63 @@ unit-idle s codes rules (m ∷ ms) c h = go (ruleChanges codes (getD rules m noR
     go false e r others =
         ap (unitByCodes s codes rules ms) (rule-idle s codes (getD rules m noRule) c e) ∙ others r
 
--- NO DIRECTIVE TAKES A RANGE OR A TARGET AWAY
+-- a code that adds ranges is one that changes the controls
+adding-changes : (code : ℕ) → ltb 7 code ≡ false → ltb 17 code ≡ false
+adding-changes code e = le-ltb 17 code (omega (arith, ltb-false 7 code e))
+
+-- where no element passes a test, none passes a stricter one
+any-stricter : {A : Type 0} (wide strict : A → Bool) → ((x : A) → wide x ≡ false → strict x ≡ false) → (xs : List A) → any wide xs ≡ false
+    → any strict xs ≡ false
+any-stricter wide strict h [] e = refl
+any-stricter wide strict h (x ∷ xs) e = go (wide x) refl e (any-stricter wide strict h xs)
+  where
+    go : (b : Bool) → wide x ≡ b → (b || any wide xs) ≡ false → (any wide xs ≡ false → any strict xs ≡ false) → (strict x || any strict xs) ≡ false
+    go true d r others = absurd (let z : _≡_ {A = ℕ} 0 1 = cc in omega arith)
+    go false d r others = rw (h x d) (others r)
+
+rule-adds-not : (codes : List ℕ) (r : Rule) → ruleChanges codes r ≡ false → ruleAdds codes r ≡ false
+unfolding ruleChanges ruleAdds
+rule-adds-not codes r e = any-stricter isChange (λ code. ltb 17 code) adding-changes (take (r .count) (drop (r .first) codes)) e
+
+-- a unit without a change leaves the struct
+pub unit-unchanged : (s : Source) (codes : List ℕ) (rules : List Rule) (ms : List ℕ) (added : Bool) (c : held.Controls)
+    → unitChanges codes rules ms ≡ false
+    → Changed (unitAdds codes rules ms) added c added c (unitByCodes s codes rules ms (controlsOf c))
+unit-unchanged s codes rules ms added c e =
+    changed-as
+    (sym (any-stricter (λ m. ruleChanges codes (getD rules m noRule)) (λ m. ruleAdds codes (getD rules m noRule))
+    (λ m. rule-adds-not codes (getD rules m noRule)) ms e))
+    (sym (unit-idle s codes rules ms (controlsOf c) e))
+    (changed-same added c)
+
+-- NO DIRECTIVE TAKES A TARGET AWAY
 
 applied-grown : (c : Controls) (at : Place) (d : Directive) → Grown c (applied c at d)
-applied-grown c at (ruleEngine m) = record { ranges = omega arith; targets = omega arith }
-applied-grown c at (ruleRemoveById rs) = record { ranges = omega (arith, length-append (c .ranges) rs); targets = omega arith }
-applied-grown c at (ruleRemoveTargetById id target) =
-    record { ranges = omega arith; targets = omega (arith, length-append (c .targets) (at ∷ [])) }
-applied-grown c at (requestBodyAccess a) = record { ranges = omega arith; targets = omega arith }
-applied-grown c at (requestBodyProcessor p) = record { ranges = omega arith; targets = omega arith }
-applied-grown c at (unsupported r) = grown-same c
+applied-grown c at (ruleEngine m) = omega arith
+applied-grown c at (ruleRemoveById rs) = omega arith
+applied-grown c at (ruleRemoveTargetById id target) = omega (arith, length-append (c .targets) (at ∷ []))
+applied-grown c at (requestBodyAccess a) = omega arith
+applied-grown c at (requestBodyProcessor p) = omega arith
+applied-grown c at (unsupported r) = omega arith
 
 actions-grown : (q : Given) (ps : List Placed) (c : Controls) → Grown c (actionControls q ps c)
-actions-grown q [] c = grown-same c
+actions-grown q [] c = omega arith
 actions-grown q (p ∷ ps) c =
     let d = applied c (record { phase = q .settings .phase; position = p .position }) (directiveIn (q .text) p) in
-    grown-then c d (actionControls q ps d)
-    (applied-grown c (record { phase = q .settings .phase; position = p .position }) (directiveIn (q .text) p))
-    (actions-grown q ps d)
+    omega (
+      arith,
+      applied-grown c (record { phase = q .settings .phase; position = p .position }) (directiveIn (q .text) p),
+      actions-grown q ps d,
+    )
 
 rule-grows : (q : Given) (m : ℕ) (c : Controls) → Grown c (ruleControls q m c)
 unfolding ruleControls
 rule-grows q m c = actions-grown q (controlsIn (actionsAt q m)) c
 
 pub grows : (q : Given) (ms : List ℕ) (c : Controls) → Grown c (unitControls q ms c)
-grows q [] c = grown-same c
+grows q [] c = omega arith
 grows q (m ∷ ms) c =
-    grown-then c (ruleControls q m c) (unitControls q ms (ruleControls q m c)) (rule-grows q m c)
-    (grows q ms (ruleControls q m c))
+    omega (arith, rule-grows q m c, grows q ms (ruleControls q m c))
 
 -- THE RANGES OF A DIRECTIVE ARE THOSE OF ITS VALUE
 
@@ -234,59 +275,68 @@ removal-is name value rs e =
     go false false false false true h = other (processorValue (fold v)) (processor-no (fold v)) h
     go false false false false false h = other (otherNamed w) (other-no w) h
 
--- ONE ACTION, WHERE WHAT IT LEAVES IS WITHIN THE LIMITS
+-- ONE ACTION, WHERE WHAT IS HELD AND WHAT IT GIVES IS WITHIN THE LIMITS
 
-all-fit : (c : Controls) (rs : List RuleIdRange) → length (c .ranges ++ rs) ≤ 256 → length (c .targets) ≤ 64
-    → withAllRanges c rs ≡ withRanges c (addRanges (c .ranges) rs)
-unfolding addRangesAnswer beyondLimits
-all-fit c rs h k =
-    let l = length-append (c .ranges) rs in
-    rw (
-      le-ltb 256 (length (c .ranges)) (omega arith),
-      le-ltb 64 (length (c .targets)) k,
-      le-ltb 256 (length (c .ranges) + length rs) (omega arith),
-    )
+-- controls with room for so many ranges and targets more
+pub record HasRoom (c : Controls) (ranges targets : ℕ) : Type 0 where
+  pub for-ranges : length (c .ranges) + ranges ≤ 256
+  pub for-targets : length (c .targets) + targets ≤ 64
 
-target-fits : (c : Controls) (at : Place) → length (c .ranges) ≤ 256 → length (c .targets ++ (at ∷ [])) ≤ 64
-    → withTarget c at ≡ withTargets c (addTarget (c .targets) at)
-unfolding addTargetAnswer beyondLimits
-target-fits c at h k =
-    let l = length-append (c .targets) (at ∷ []) in
-    rw (
-      le-ltb 256 (length (c .ranges)) h,
-      le-ltb 64 (length (c .targets)) (omega arith),
-      lt-leb 64 (length (c .targets)) (omega arith),
-    )
+all-fit : (c : Controls) (rs : List RuleIdRange) → length (c .ranges) + length rs ≤ 256 → rangesIfRoom c rs ≡ withRanges c (addRanges (c .ranges) rs)
+all-fit c rs h = rw (le-ltb 256 (length (c .ranges) + length rs) h)
+
+target-fits : (c : Controls) (at : Place) → length (c .targets) + 1 ≤ 64 → targetIfRoom c at ≡ withTargets c (addTarget (c .targets) at)
+target-fits c at h = rw (lt-leb 64 (length (c .targets)) (omega arith))
 
 coded-ranges : (at : Place) (value : List ℕ) (code : ℕ) (c : Controls) → 17 < code
-    → appliedCode at value code c ≡ withAllRanges c (rangesOf (removalValue (trim value)))
+    → appliedCode at value code c ≡ rangesIfRoom c (rangesOf (removalValue (trim value)))
 unfolding appliedCode
 coded-ranges at value code c h = rw (lt-leb code 16 (omega arith), ne-eqb code 17 (λ e. omega arith))
 
 directive-fits : (at : Place) (name value : List ℕ) (d : Directive) (c : Controls) → directiveOf name value ≡ d
-    → length (applied c at d .ranges) ≤ 256 → length (applied c at d .targets) ≤ 64
-    → appliedCode at value (codeOf (withoutLists value d)) c ≡ applied c at d
+    → HasRoom c (rangeCount d) (targetCount d) → appliedCode at value (codeOf (withoutLists value d)) c ≡ applied c at d
 unfolding appliedCode
-directive-fits at name value (ruleEngine RuleEngineMode.On) c e h k = refl
-directive-fits at name value (ruleEngine RuleEngineMode.DetectionOnly) c e h k = refl
-directive-fits at name value (ruleEngine RuleEngineMode.Off) c e h k = refl
-directive-fits at name value (ruleRemoveById rs) c e h k =
+directive-fits at name value (ruleEngine RuleEngineMode.On) c e h = refl
+directive-fits at name value (ruleEngine RuleEngineMode.DetectionOnly) c e h = refl
+directive-fits at name value (ruleEngine RuleEngineMode.Off) c e h = refl
+directive-fits at name value (ruleRemoveById rs) c e h =
     coded-ranges at value (18 + min (length rs) 257) c (omega arith)
-    ∙ (ap (withAllRanges c) (removal-is name value rs e) ∙ all-fit c rs h k)
-directive-fits at name value (ruleRemoveTargetById id target) c e h k = target-fits c at h k
-directive-fits at name value (requestBodyAccess BodyAccess.On) c e h k = refl
-directive-fits at name value (requestBodyAccess BodyAccess.Off) c e h k = refl
-directive-fits at name value (requestBodyProcessor BodyProcessor.Urlencoded) c e h k = refl
-directive-fits at name value (requestBodyProcessor BodyProcessor.Multipart) c e h k = refl
-directive-fits at name value (requestBodyProcessor BodyProcessor.Json) c e h k = refl
-directive-fits at name value (requestBodyProcessor BodyProcessor.Xml) c e h k = refl
-directive-fits at name value (unsupported UnsupportedReason.ModeValue) c e h k = refl
-directive-fits at name value (unsupported UnsupportedReason.IdList) c e h k = refl
-directive-fits at name value (unsupported UnsupportedReason.TargetForm) c e h k = refl
-directive-fits at name value (unsupported UnsupportedReason.BodyAccessValue) c e h k = refl
-directive-fits at name value (unsupported UnsupportedReason.Processor) c e h k = refl
-directive-fits at name value (unsupported UnsupportedReason.Audit) c e h k = refl
-directive-fits at name value (unsupported UnsupportedReason.Unrecognised) c e h k = refl
+    ∙ (ap (rangesIfRoom c) (removal-is name value rs e) ∙ all-fit c rs (h .for-ranges))
+directive-fits at name value (ruleRemoveTargetById id target) c e h = target-fits c at (h .for-targets)
+directive-fits at name value (requestBodyAccess BodyAccess.On) c e h = refl
+directive-fits at name value (requestBodyAccess BodyAccess.Off) c e h = refl
+directive-fits at name value (requestBodyProcessor BodyProcessor.Urlencoded) c e h = refl
+directive-fits at name value (requestBodyProcessor BodyProcessor.Multipart) c e h = refl
+directive-fits at name value (requestBodyProcessor BodyProcessor.Json) c e h = refl
+directive-fits at name value (requestBodyProcessor BodyProcessor.Xml) c e h = refl
+directive-fits at name value (unsupported UnsupportedReason.ModeValue) c e h = refl
+directive-fits at name value (unsupported UnsupportedReason.IdList) c e h = refl
+directive-fits at name value (unsupported UnsupportedReason.TargetForm) c e h = refl
+directive-fits at name value (unsupported UnsupportedReason.BodyAccessValue) c e h = refl
+directive-fits at name value (unsupported UnsupportedReason.Processor) c e h = refl
+directive-fits at name value (unsupported UnsupportedReason.Audit) c e h = refl
+directive-fits at name value (unsupported UnsupportedReason.Unrecognised) c e h = refl
+
+-- its code says whether a directive adds ranges
+directive-removes : (value : List ℕ) (d : Directive) → isAdding (codeOf (withoutLists value d)) ≡ isRemoval d
+directive-removes value (ruleEngine RuleEngineMode.On) = refl
+directive-removes value (ruleEngine RuleEngineMode.DetectionOnly) = refl
+directive-removes value (ruleEngine RuleEngineMode.Off) = refl
+directive-removes value (ruleRemoveById rs) = lt-ltb 17 (18 + min (length rs) 257) (omega arith)
+directive-removes value (ruleRemoveTargetById id target) = refl
+directive-removes value (requestBodyAccess BodyAccess.On) = refl
+directive-removes value (requestBodyAccess BodyAccess.Off) = refl
+directive-removes value (requestBodyProcessor BodyProcessor.Urlencoded) = refl
+directive-removes value (requestBodyProcessor BodyProcessor.Multipart) = refl
+directive-removes value (requestBodyProcessor BodyProcessor.Json) = refl
+directive-removes value (requestBodyProcessor BodyProcessor.Xml) = refl
+directive-removes value (unsupported UnsupportedReason.ModeValue) = refl
+directive-removes value (unsupported UnsupportedReason.IdList) = refl
+directive-removes value (unsupported UnsupportedReason.TargetForm) = refl
+directive-removes value (unsupported UnsupportedReason.BodyAccessValue) = refl
+directive-removes value (unsupported UnsupportedReason.Processor) = refl
+directive-removes value (unsupported UnsupportedReason.Audit) = refl
+directive-removes value (unsupported UnsupportedReason.Unrecognised) = refl
 
 -- LISTS OF CODES WITH ZEROS BEHIND THEM
 
@@ -338,11 +388,14 @@ module _ (q : Given) where
   abbrev afterAction : ℕ → Action → Controls → Controls
   afterAction i a c = cond (eqb (a .kind) 19) (applied c (place i) (directiveIn (q .text) (placed i a))) c
 
-  action-fits : (i : ℕ) (a : Action) (c : Controls) → length (afterAction i a c .ranges) ≤ 256 → length
-      (afterAction i a c .targets) ≤ 64
+  -- how many ranges, or targets, an action gives
+  abbrev gives : (Directive → ℕ) → ℕ → Action → ℕ
+  gives given i a = cond (eqb (a .kind) 19) (given (directiveIn (q .text) (placed i a))) 0
+
+  action-fits : (i : ℕ) (a : Action) (c : Controls) → HasRoom c (gives rangeCount i a) (gives targetCount i a)
       → appliedCode (place i) (partOf (q .text) (a .value)) (codeAt (q .text) a) c ≡ afterAction i a c
   unfolding codeAt directiveIn
-  action-fits i a c h k = go (eqb (a .kind) 19) h k
+  action-fits i a c h = go (eqb (a .kind) 19) (h .for-ranges) (h .for-targets)
     where
       name : List ℕ
       name = partOf (q .text) (a .text)
@@ -351,12 +404,34 @@ module _ (q : Given) where
       value = partOf (q .text) (a .value)
 
       go : (b : Bool)
-          → length (cond b (applied c (place i) (directiveOf name value)) c .ranges) ≤ 256
-          → length (cond b (applied c (place i) (directiveOf name value)) c .targets) ≤ 64
+          → length (c .ranges) + cond b (rangeCount (directiveOf name value)) 0 ≤ 256
+          → length (c .targets) + cond b (targetCount (directiveOf name value)) 0 ≤ 64
           → appliedCode (place i) value (cond b (codeOf (withoutLists value (directiveOf name value))) 0) c
           ≡ cond b (applied c (place i) (directiveOf name value)) c
-      go true h k = directive-fits (place i) name value (directiveOf name value) c refl h k
-      go false h k = few-idle (place i) value 0 c (omega arith)
+      go true r t = directive-fits (place i) name value (directiveOf name value) c refl (record { for-ranges = r; for-targets = t })
+      go false r t = few-idle (place i) value 0 c (omega arith)
+
+  -- after it there is room for what the others give
+  action-counts : (count : Controls → ℕ) (given : Directive → ℕ) → Counted count given → (i : ℕ) (a : Action) (c : Controls)
+      → count (afterAction i a c) ≤ count c + gives given i a
+  action-counts count given counted i a c = go (eqb (a .kind) 19)
+    where
+      go : (b : Bool)
+          → count (cond b (applied c (place i) (directiveIn (q .text) (placed i a))) c)
+          ≤ count c + cond b (given (directiveIn (q .text) (placed i a))) 0
+      go true = counted .by-one c (place i) (directiveIn (q .text) (placed i a))
+      go false = omega arith
+
+  action-gives : (given : Directive → ℕ) (i : ℕ) (a : Action) (rest : List Placed)
+      → total (λ p. given (directiveIn (q .text) p)) (keep (eqb (a .kind) 19) (placed i a ∷ []) ++ rest)
+      ≡ gives given i a + total (λ p. given (directiveIn (q .text) p)) rest
+  action-gives given i a rest = go (eqb (a .kind) 19)
+    where
+      go : (b : Bool)
+          → total (λ p. given (directiveIn (q .text) p)) (keep b (placed i a ∷ []) ++ rest)
+          ≡ cond b (given (directiveIn (q .text) (placed i a))) 0 + total (λ p. given (directiveIn (q .text) p)) rest
+      go true = omega arith
+      go false = omega arith
 
   -- the ctl actions from one on: the first, and those after it
   after-first : (i : ℕ) (a : Action) (rest : List Placed) (c : Controls)
@@ -373,48 +448,95 @@ module _ (q : Given) where
   abbrev outOf : ℕ → ℕ → List Action → Controls → Controls
   outOf i n l c = actionControls q (controlsIn (placedFrom i (take n l))) c
 
+  -- what they give
+  abbrev allGive : (Directive → ℕ) → ℕ → ℕ → List Action → ℕ
+  allGive given i n l = total (λ p. given (directiveIn (q .text) p)) (controlsIn (placedFrom i (take n l)))
+
   codes-fit : (l : List Action) (i n k : ℕ) (c : Controls) → drop i (q .actions) ≡ l
-      → length (outOf i n l c .ranges) ≤ 256 → length (outOf i n l c .targets) ≤ 64
+      → HasRoom c (allGive rangeCount i n l) (allGive targetCount i n l)
       → appliedCodes s i (take n (map (codeAt (q .text)) l ++ zeros k)) c ≡ outOf i n l c
-  codes-fit [] i zero k c e hr ht = refl
-  codes-fit [] i (suc n) k c e hr ht = codes-idle s i (take (suc n) (zeros k)) c (take-zeros (suc n) k)
-  codes-fit (a ∷ l) i zero k c e hr ht = refl
-  codes-fit (a ∷ l) i (suc n) k c e hr ht =
+  codes-fit [] i zero k c e h = refl
+  codes-fit [] i (suc n) k c e h = codes-idle s i (take (suc n) (zeros k)) c (take-zeros (suc n) k)
+  codes-fit (a ∷ l) i zero k c e h = refl
+  codes-fit (a ∷ l) i (suc n) k c e h =
       let rest = controlsIn (placedFrom (suc i) (take n l)) in
       let d = afterAction i a c in
-      let out = after-first i a rest c in
-      let more = actions-grown q rest d in
-      let r : length (outOf (suc i) n l d .ranges) ≤ 256 = subst (λ (x : Controls). length (x .ranges) ≤ 256) out hr in
-      let t : length (outOf (suc i) n l d .targets) ≤ 64 = subst (λ (x : Controls). length (x .targets) ≤ 64) out ht in
+      let r = action-gives rangeCount i a rest in
+      let t = action-gives targetCount i a rest in
+      let first : HasRoom c (gives rangeCount i a) (gives targetCount i a)
+      = record { for-ranges = omega (arith, h .for-ranges, r); for-targets = omega (arith, h .for-targets, t) } in
+      let others : HasRoom d (allGive rangeCount (suc i) n l) (allGive targetCount (suc i) n l)
+      = record {
+        for-ranges = omega (arith, h .for-ranges, r, action-counts (λ x. length (x .ranges)) rangeCount ranges-counted i a c);
+        for-targets = omega (arith, h .for-targets, t, action-counts (λ x. length (x .targets)) targetCount targets-counted i a c);
+      } in
       ap (λ (x : Action). appliedCodes s (suc i) (take n (map (codeAt (q .text)) l ++ zeros k))
       (appliedCode (place i) (partOf (q .text) (x .value)) (codeAt (q .text) a) c)) (head-is (q .actions) i a l e)
-      ∙ (ap (appliedCodes s (suc i) (take n (map (codeAt (q .text)) l ++ zeros k)))
-      (action-fits i a c (omega (arith, more .ranges)) (omega (arith, more .targets)))
-      ∙ (codes-fit l (suc i) n k d (tail-is (q .actions) i a l e) r t ∙ sym out))
+      ∙ (ap (appliedCodes s (suc i) (take n (map (codeAt (q .text)) l ++ zeros k))) (action-fits i a c first)
+      ∙ (codes-fit l (suc i) n k d (tail-is (q .actions) i a l e) others ∙ sym (after-first i a rest c)))
+
+  -- an action's code adds ranges where its directive does
+  action-removes : (i : ℕ) (a : Action) → isAdding (codeAt (q .text) a) ≡ any (λ p. isRemoval (directiveIn (q .text) p)) (keep (eqb (a .kind) 19) (placed i a ∷ []))
+  unfolding codeAt directiveIn
+  action-removes i a = go (eqb (a .kind) 19)
+    where
+      d : Directive
+      d = directiveOf (partOf (q .text) (a .text)) (partOf (q .text) (a .value))
+
+      go : (b : Bool) → isAdding (cond b (codeOf (withoutLists (partOf (q .text) (a .value)) d)) 0)
+          ≡ any (λ (p : Placed). isRemoval (directiveOf (partOf (q .text) (p .action .text)) (partOf (q .text) (p .action .value)))) (keep b (placed i a ∷ []))
+      go true = directive-removes (partOf (q .text) (a .value)) d ∙ sym (or-false-is (isRemoval d))
+      go false = refl
+
+  codes-remove : (l : List Action) (i n k : ℕ)
+      → any isAdding (take n (map (codeAt (q .text)) l ++ zeros k)) ≡ any (λ p. isRemoval (directiveIn (q .text) p)) (controlsIn (placedFrom i (take n l)))
+  codes-remove [] i zero k = refl
+  codes-remove [] i (suc n) k = any-stricter isChange isAdding adding-changes (take (suc n) (zeros k)) (take-zeros (suc n) k)
+  codes-remove (a ∷ l) i zero k = refl
+  codes-remove (a ∷ l) i (suc n) k =
+      ap₂ _||_ (action-removes i a) (codes-remove l (suc i) n k)
+      ∙ sym (any-append (λ p. isRemoval (directiveIn (q .text) p)) (keep (eqb (a .kind) 19) (placed i a ∷ [])) (controlsIn (placedFrom (suc i) (take n l))))
 
   module _ (codes : List ℕ) (k : ℕ) (are : codes ≡ over (zeros k) (codesOf (q .text) (q .actions))) where
     pub padded : codes ≡ codesOf (q .text) (q .actions) ++ zeros (k - length (codesOf (q .text) (q .actions)))
     padded = are ∙ ap (λ (l : List ℕ). codesOf (q .text) (q .actions) ++ l)
         (drop-zeros (length (codesOf (q .text) (q .actions))) k)
 
-    rule-fits : (m : ℕ) (c : Controls) → length (ruleControls q m c .ranges) ≤ 256 → length (ruleControls q m c .targets) ≤ 64
+    rule-fits : (m : ℕ) (c : Controls) → HasRoom c (ruleTotal q rangeCount (getD (q .rules) m noRule)) (ruleTotal q targetCount (getD (q .rules) m noRule))
         → ruleByCodes s codes (getD (q .rules) m noRule) c ≡ ruleControls q m c
-    unfolding ruleByCodes ruleControls actionsAt ruleAt actionsOf
-    rule-fits m c hr ht =
+    unfolding ruleByCodes ruleControls actionsAt ruleAt actionsOf ruleTotal
+    rule-fits m c h =
         let r = getD (q .rules) m noRule in
         let size = k - length (codesOf (q .text) (q .actions)) in
         let from = drop-padded (codeAt (q .text)) (q .actions) (r .first) size in
         ap (λ (l : List ℕ). appliedCodes s (r .first) (take (r .count) (drop (r .first) l)) c) padded
         ∙ (ap (λ (l : List ℕ). appliedCodes s (r .first) (take (r .count) l) c) from
-        ∙ codes-fit (drop (r .first) (q .actions)) (r .first) (r .count) (size - (r .first - length (q .actions))) c refl hr ht)
+        ∙ codes-fit (drop (r .first) (q .actions)) (r .first) (r .count) (size - (r .first - length (q .actions))) c refl h)
 
-    -- a unit whose controls stay within the limits
-    pub unit-fits : (ms : List ℕ) (c : Controls) → length (unitControls q ms c .ranges) ≤ 256 → length
-        (unitControls q ms c .targets) ≤ 64
+    -- whether its codes add ranges is whether its directives do
+    rule-removes : (m : ℕ) → ruleAdds codes (getD (q .rules) m noRule) ≡ memberRemoves q m
+    unfolding ruleAdds memberRemoves actionsAt ruleAt actionsOf
+    rule-removes m =
+        let r = getD (q .rules) m noRule in
+        let size = k - length (codesOf (q .text) (q .actions)) in
+        let from = drop-padded (codeAt (q .text)) (q .actions) (r .first) size in
+        ap (λ (l : List ℕ). any isAdding (take (r .count) (drop (r .first) l))) padded
+        ∙ (ap (λ (l : List ℕ). any isAdding (take (r .count) l)) from
+        ∙ codes-remove (drop (r .first) (q .actions)) (r .first) (r .count) (size - (r .first - length (q .actions))))
+
+    pub unit-removes : (ms : List ℕ) → unitAdds codes (q .rules) ms ≡ unitRemoves q ms
+    unit-removes [] = refl
+    unit-removes (m ∷ ms) = ap₂ _||_ (rule-removes m) (unit-removes ms)
+
+    -- a unit whose members' directives give no more than there is room for
+    pub unit-fits : (ms : List ℕ) (c : Controls)
+        → HasRoom c (total (λ m. ruleTotal q rangeCount (getD (q .rules) m noRule)) ms) (total (λ m. ruleTotal q targetCount (getD (q .rules) m noRule)) ms)
         → unitByCodes s codes (q .rules) ms c ≡ unitControls q ms c
-    unit-fits [] c hr ht = refl
-    unit-fits (m ∷ ms) c hr ht =
-        let d = ruleControls q m c in
-        let more = grows q ms d in
-        ap (unitByCodes s codes (q .rules) ms) (rule-fits m c (omega (arith, more .ranges)) (omega (arith, more .targets)))
-        ∙ unit-fits ms d hr ht
+    unit-fits [] c h = refl
+    unit-fits (m ∷ ms) c h =
+        let r = member-count q (λ x. length (x .ranges)) rangeCount ranges-counted m c in
+        let t = member-count q (λ x. length (x .targets)) targetCount targets-counted m c in
+        ap (unitByCodes s codes (q .rules) ms)
+        (rule-fits m c (record { for-ranges = omega (arith, h .for-ranges); for-targets = omega (arith, h .for-targets) }))
+        ∙ unit-fits ms (ruleControls q m c)
+        (record { for-ranges = omega (arith, h .for-ranges, r); for-targets = omega (arith, h .for-targets, t) })

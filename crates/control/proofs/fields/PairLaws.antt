@@ -1,19 +1,17 @@
 -- Laws of the list that two arrays and a count stand for. Assumes nothing.
 use Prim.Native.Nat.{ℕ, zero, suc, _≤_, _<_}
-use mathlib.Core.Path.{_≡_, refl, ap, _∙_}
-use mathlib.Core.Bool.{Bool, true, false, _||_, or-true}
-use mathlib.Core.List.{List, [], _∷_, _++_}
+use mathlib.Core.Path.{_≡_, refl, sym, ap, _∙_}
+use mathlib.Core.Bool.{Bool, true, false}
+use mathlib.Core.List.{List, [], _∷_, _++_, map, map-append}
 use native.Mathlib.Omega.{arith}
 use borrow.Author.Tests.{ltb-true, ltb-false}
 use lib.Dec.{ltb}
-use lib.ListN.{length, getD, set, length-append}
-use lib.Seq.{getD-set-other}
+use lib.ListN.{length, getD, set, length-append, length-map, List·getD-append}
+use lib.Seq.{getD-set-other, getD-at}
 use Rattle.reading.specs.declared.RuleIdRange.{RuleIdRange}
 use Rattle.reading.specs.declared.Place.{Place}
 use Rattle.reading.specs.declared.OptionPlace.{OptionPlace}
-use Rattle.reading.specs.Lists.{any}
 use Rattle.reading.specs.Controls.{pairList, targetList, placeAt}
-use Rattle.lists.proofs.Tests.{any-append}
 
 -- an entry of the two lists
 abbrev pub rangeOf : ℕ → ℕ → RuleIdRange
@@ -37,25 +35,29 @@ module _ {A : Type 0} (make : ℕ → ℕ → A) (xs ys : List ℕ) where
         getD-set-other ys k n y 0 (λ e. omega arith),
       )
 
-  -- an entry that passes a test
-  pub any-passed : (test : A → Bool) (n k : ℕ) → k < n → test (make (getD xs k 0) (getD ys k 0)) ≡ true
-      → any test (pairList make n xs ys) ≡ true
-  any-passed test zero k h e = absurd (omega arith)
-  any-passed test (suc n) k h e =
-      any-append test (pairList make n xs ys) (make (getD xs n 0) (getD ys n 0) ∷ []) ∙ go (ltb k n) refl (any-passed test n k)
+-- one of the two arrays, read off the list below the count
+module _ {A : Type 0} (make : ℕ → ℕ → A) (read : A → ℕ) (xs ys column : List ℕ)
+    (reads : (k : ℕ) → read (make (getD xs k 0) (getD ys k 0)) ≡ getD column k 0) where
+  pub entry-at : (n k : ℕ) → k < n → getD (map read (pairList make n xs ys)) k 0 ≡ getD column k 0
+  entry-at zero k h = absurd (omega arith)
+  entry-at (suc n) k h =
+      ap (λ (l : List ℕ). getD l k 0) (map-append read (pairList make n xs ys) (make (getD xs n 0) (getD ys n 0) ∷ []))
+      ∙ go (ltb k n) refl (entry-at n k)
     where
-      go : (t : Bool) → ltb k n ≡ t → (k < n → test (make (getD xs k 0) (getD ys k 0)) ≡ true → any test (pairList make n xs ys) ≡ true)
-          → (any test (pairList make n xs ys) || (test (make (getD xs n 0) (getD ys n 0)) || false)) ≡ true
-      go true d ih = rw (ih (ltb-true k n d) e)
+      size : length (map read (pairList make n xs ys)) ≡ n
+      size = length-map (pairList make n xs ys) read ∙ length-pairs make xs ys n
+
+      go : (t : Bool) → ltb k n ≡ t → (k < n → getD (map read (pairList make n xs ys)) k 0 ≡ getD column k 0)
+          → getD (map read (pairList make n xs ys) ++ (read (make (getD xs n 0) (getD ys n 0)) ∷ [])) k 0 ≡ getD column k 0
+      go true d ih =
+          let below : k < n = ltb-true k n d in
+          List·getD-append (map read (pairList make n xs ys)) (read (make (getD xs n 0) (getD ys n 0)) ∷ []) 0 k (omega (arith, size))
+          ∙ ih below
       go false d ih =
           let q : k ≡ n = omega (arith, ltb-false k n d) in
-          let p : test (make (getD xs n 0) (getD ys n 0)) ≡ true = rw q at e in
-          rw p (or-true (any test (pairList make n xs ys)))
-
-  -- an entry that does not, after others that do not
-  pub any-failed : (test : A → Bool) (n : ℕ) → any test (pairList make n xs ys) ≡ false → test (make (getD xs n 0) (getD ys n 0)) ≡ false
-      → any test (pairList make (suc n) xs ys) ≡ false
-  any-failed test n e d = rw (any-append test (pairList make n xs ys) (make (getD xs n 0) (getD ys n 0) ∷ []), e, d)
+          let s : length (map read (pairList make n xs ys)) ≡ k = omega (arith, size) in
+          getD-at (map read (pairList make n xs ys)) (read (make (getD xs n 0) (getD ys n 0))) [] 0 k s
+          ∙ (reads n ∙ ap (λ (i : ℕ). getD column i 0) (sym q))
 
 place-past : (l : List Place) (k : ℕ) → length l ≤ k → placeAt l k ≡ OptionPlace.None
 place-past [] k h = refl

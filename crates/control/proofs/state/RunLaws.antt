@@ -36,3 +36,10 @@ module _ {A : Type 0} (make : ℕ → ℕ → A) (first second : A → ℕ) (mad
             getD-set-same ys n (second a) 0 (omega arith),
             made a,
           )
+
+  -- those before are as they were
+  pub pairs-under : (new : List A) (xs ys : List ℕ) (n m : ℕ) → n ≤ m
+      → pairList make n (sets xs m (map first new)) (sets ys m (map second new)) ≡ pairList make n xs ys
+  pairs-under [] xs ys n m h = refl
+  pairs-under (a ∷ new) xs ys n m h =
+      pairs-under new (set xs m (first a)) (set ys m (second a)) n (suc m) (omega arith) ∙ pairs-past make xs ys n m (first a) (second a) h

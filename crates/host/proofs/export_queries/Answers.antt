@@ -1,14 +1,13 @@
 -- A host's question that is refused, and one that is answered. Assumes nothing.
 use Prim.Native.Nat.{ℕ}
 use mathlib.Core.Path.{_≡_, sym, ap, _∙_}
-use mathlib.Core.Bool.{Bool, cond, _||_}
-use lib.Dec.{ltb}
+use mathlib.Core.Bool.{Bool, true, false, cond}
 use borrow.Author.Tests.{ne-eqb}
 use Rattle.reading.specs.declared.OptionPlace.{OptionPlace}
 use Rattle.reading.specs.Controls.{Asked, askTarget}
 use Rattle.control.specs.declared.state.Controls.{Controls}
 use Rattle.control.specs.ControlsStruct.{controlsOf}
-use Rattle.control.proofs.state.HeldLaws.{beyond}
+use Rattle.control.proofs.state.HeldLaws.{badParts, bad}
 use Rattle.control.specs.QueryAnswers.{Answered}
 use Rattle.abi.specs.declared.host_controls.HostControls.{HostControls}
 use Rattle.abi.specs.declared.values.HostPlace.{HostPlace}
@@ -16,14 +15,24 @@ use Rattle.abi.specs.HostValues.{hostPlace}
 use Rattle.abi.specs.HostControls.{knownControls, controlsFromHost}
 use Rattle.host.specs.HostQueries.{controlsIn, refusalIn, answered, hostTarget}
 
+-- t is what `is_bad` gave
+module _ (c : HostControls) (known t : Bool) (is : t ≡ badParts (c .ranges) (c .targets) (c .starts) (c .ends)) where
+  met : refusalIn c known ≡ cond t 3 (cond known 0 5)
+  unfolding refusalIn controlsFromHost
+  met = rw (bad (controlsFromHost c), is)
+
+  pub says-3 : t ≡ true → 3 ≡ refusalIn c known
+  says-3 e = sym (met ∙ rw e)
+
+  pub says-5 : t ≡ false → known ≡ false → 5 ≡ refusalIn c known
+  says-5 e k = sym (met ∙ rw (e, k))
+
+  pub says-0 : t ≡ false → known ≡ true → 0 ≡ refusalIn c known
+  says-0 e k = sym (met ∙ rw (e, k))
+
 -- n is what `refusal` gave of b, and b what was asked of the numbers
-pub told : (c : HostControls) (known b : Bool) (n : ℕ) → b ≡ known → n ≡ cond (ltb 256 (c .ranges) || ltb 64 (c .targets)) 3 (cond b 0 5)
-    → n ≡ refusalIn c known
-unfolding refusalIn controlsFromHost
-told c known b n e is =
-    is
-    ∙ (ap (λ (t : Bool). cond (ltb 256 (c .ranges) || ltb 64 (c .targets)) 3 (cond t 0 5)) e
-    ∙ sym (ap (λ (t : Bool). cond t 3 (cond known 0 5)) (beyond (controlsFromHost c))))
+pub told : (c : HostControls) (known b : Bool) (n : ℕ) → b ≡ known → n ≡ refusalIn c b → n ≡ refusalIn c known
+told c known b n e is = is ∙ ap (refusalIn c) e
 
 module _ (c : HostControls) (known : Bool) (n : ℕ) (is : n ≡ refusalIn c known) where
   module _ {A : Type 0} (number : A → ℕ) where

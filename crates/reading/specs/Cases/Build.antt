@@ -1,5 +1,5 @@
 -- Cases written as 01 writes them, and the calls that they stand for.
-use Prim.Native.Nat.{ℕ, _+_}
+use Prim.Native.Nat.{ℕ, zero, suc, _+_, _-_, _*_}
 use Prim.Native.String.{String}
 use mathlib.Core.Bool.{Bool, true, false, not, cond, _&&_, _||_}
 use mathlib.Core.List.{List, [], _∷_, _++_, map}
@@ -26,7 +26,7 @@ use Rattle.reading.specs.declared.OptionIntervention.{OptionIntervention
 use Rattle.reading.specs.Lists.{gather, total}
 use Rattle.reading.specs.Text.{ascii, same}
 use Rattle.reading.specs.Numbers.{modeNumber, modeSettingNumber, accessSettingNumber, processorSettingNumber, presentNumber, numberOrZero, reasonNumber}
-use Rattle.reading.specs.Directive.{directiveOf, reasonsOf}
+use Rattle.reading.specs.Directive.{directiveOf, reasonsOf, startOf, endOf}
 use Rattle.reading.specs.Controls.{Controls, noControls, isRemoved}
 use Rattle.reading.specs.Reading.{Reading, rust, manual}
 use Rattle.reading.specs.Call.{Call, Lists}
@@ -248,6 +248,11 @@ call ws ms = callIn RuleEngineMode.On ws ms
 abbrev pub range : ℕ → ℕ → RuleIdRange
 range from to = record { start = from; end = to }
 
+-- so many ranges of one id each with an id between each two, in the merged form; the last one is 2000-2000
+abbrev pub apart : ℕ → List RuleIdRange
+apart zero = []
+apart (suc n) = range (2000 - 2 * n) (2000 - 2 * n) ∷ apart n
+
 abbrev pub holding : List RuleIdRange → Controls
 holding rs = record { mode = ModeSetting.Unset; ranges = rs; targets = []; access = AccessSetting.Unset; processor = ProcessorSetting.Unset }
 
@@ -330,8 +335,9 @@ pub record Found : Type 0 where
 abbrev pub nothing : Found
 nothing = record { visits = []; ids = []; data-entries = []; allowed = false; stop = none }
 
--- the name of a case, its call, the answer with the error's index, what is found, the settings that are then held and how
--- many ranges and targets, ids that are removed and ids that are not, and directives that are supported or not
+-- the name of a case, its call, the answer with the error's index, what is found, the settings that are then held, how many ranges and
+-- which they are, if the row says it (none or one list), how many targets, ids that are removed and ids that are not, and directives
+-- that are supported or not
 pub record Row : Type 0 where
   pub name : String
   pub phase-call : Call
@@ -342,14 +348,15 @@ pub record Row : Type 0 where
   pub access : AccessSetting
   pub processor : ProcessorSetting
   pub ranges : ℕ
+  pub held : List (List RuleIdRange)
   pub targets : ℕ
   pub gone : List ℕ
   pub kept : List ℕ
   pub told : List Told
   pub unsupported : UnsupportedAt
 
--- a row by all that may differ, the settings being those at entry; a row of a call that is answered 0; one that says also what is removed and what is supported; one that adds
--- targets; one that is answered 10; one that is refused
+-- a row by all that may differ, the settings being those at entry; a row of a call that is answered 0; one that says also what is removed
+-- and what is supported; one that adds targets; one that is answered 10
 abbrev pub rowOf : String → Call → ℕ → ℕ → Found → ℕ → ℕ → List ℕ → List ℕ → List Told → Row
 rowOf name q answer error-index found ranges targets gone kept told = record {
   name = name;
@@ -361,6 +368,7 @@ rowOf name q answer error-index found ranges targets gone kept told = record {
   access = q .transaction .controls .access;
   processor = q .transaction .controls .processor;
   ranges = ranges;
+  held = [];
   targets = targets;
   gone = gone;
   kept = kept;
@@ -380,9 +388,30 @@ targeting name q found targets = rowOf name q 0 0 found 0 targets [] [] []
 abbrev pub failing : String → Call → ℕ → Found → Row
 failing name q at found = rowOf name q 10 at found 0 0 [] [] []
 
+-- a row that says which ranges are then held
+abbrev pub leaving : List RuleIdRange → Row → Row
+leaving rs r = record {
+  name = r .name;
+  phase-call = r .phase-call;
+  answer = r .answer;
+  error-index = r .error-index;
+  found = r .found;
+  mode = r .mode;
+  access = r .access;
+  processor = r .processor;
+  ranges = length rs;
+  held = rs ∷ [];
+  targets = r .targets;
+  gone = r .gone;
+  kept = r .kept;
+  told = r .told;
+  unsupported = r .unsupported;
+}
+
+-- a row that is refused: what is held stays
 abbrev pub refused : String → Call → ℕ → Row
 refused name q number =
-    rowOf name q number 0 nothing (length (q .transaction .controls .ranges)) (length (q .transaction .controls .targets)) [] [] []
+    leaving (q .transaction .controls .ranges) (rowOf name q number 0 nothing 0 (length (q .transaction .controls .targets)) [] [] [])
 
 -- a row after which other settings are held than at entry
 abbrev pub settling : AccessSetting → ProcessorSetting → ModeSetting → Row → Row
@@ -396,6 +425,7 @@ settling access processor mode r = record {
   access = access;
   processor = processor;
   ranges = r .ranges;
+  held = r .held;
   targets = r .targets;
   gone = r .gone;
   kept = r .kept;
@@ -418,6 +448,7 @@ passingOver index reason r = record {
   access = r .access;
   processor = r .processor;
   ranges = r .ranges;
+  held = r .held;
   targets = r .targets;
   gone = r .gone;
   kept = r .kept;
@@ -502,6 +533,14 @@ abbrev pub allGone : Controls → Bool → List ℕ → Bool
 allGone c gone [] = true
 allGone c gone (n ∷ ns) = eqBool (isRemoved (c .ranges) (OptionU64.Some n)) gone && allGone c gone ns
 
+-- the same ranges in the same order; those that a row says, if it does
+abbrev pub sameRanges : List RuleIdRange → List RuleIdRange → Bool
+sameRanges xs ys = same (map startOf xs) (map startOf ys) && same (map endOf xs) (map endOf ys)
+
+abbrev pub asHeld : List RuleIdRange → List (List RuleIdRange) → Bool
+asHeld found [] = true
+asHeld found (rs ∷ rest) = sameRanges found rs && asHeld found rest
+
 -- the replay of the journal found gives the same
 abbrev pub holdsReplayed : Row → List JournalEntry → Bool
 holdsReplayed r journal =
@@ -511,6 +550,7 @@ holdsReplayed r journal =
     && sameReport (reportOf (r .phase-call .given) journal) (r .found .visits) (r .unsupported)
     && sameStop (replayedIntervention (r .phase-call .given) (r .phase-call .transaction) journal) (r .found .stop)
     && eqb (length (replayedControls (r .phase-call .given) (r .phase-call .transaction) journal .ranges)) (r .ranges)
+    && asHeld (replayedControls (r .phase-call .given) (r .phase-call .transaction) journal .ranges) (r .held)
     && eqb (length (replayedControls (r .phase-call .given) (r .phase-call .transaction) journal .targets)) (r .targets)
 
 -- the first entry of the two lists is in use and stays
@@ -536,6 +576,7 @@ holdsAfter r o =
     && eqb (accessSettingNumber (o .transaction .controls .access)) (accessSettingNumber (r .access))
     && eqb (processorSettingNumber (o .transaction .controls .processor)) (processorSettingNumber (r .processor))
     && eqb (length (o .transaction .controls .ranges)) (r .ranges)
+    && asHeld (o .transaction .controls .ranges) (r .held)
     && eqb (length (o .transaction .controls .targets)) (r .targets)
     && allGone (o .transaction .controls) true (r .gone)
     && allGone (o .transaction .controls) false (r .kept)
@@ -548,3 +589,8 @@ holds r = holdsAfter r (outcomeOf (r .phase-call))
 unfoldable pub allHold : List Row → Bool
 allHold [] = true
 allHold (r ∷ rs) = holds r && allHold rs
+
+-- a condition for each line
+unfoldable pub allTrue : List Bool → Bool
+allTrue [] = true
+allTrue (b ∷ bs) = b && allTrue bs

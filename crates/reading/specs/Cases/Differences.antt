@@ -17,6 +17,7 @@ use Rattle.reading.specs.Numbers.{flowKind}
 use Rattle.reading.specs.Text.{ascii, same, trimStart, before, trimEnd, trim, fold, allDigits, valueFrom, digits, withoutPlus, numberOf, indexOf, onFirst, splitOn, oneId, idsTo, idsFrom, idPart, anyBad, rangesIn}
 use Rattle.reading.specs.Directive.{isSupported, rangesOf, rangeCount, directiveOf}
 use Rattle.reading.specs.Controls.{Controls, noControls, isRemoved}
+use Rattle.reading.specs.Ranges.{addRange, addRanges}
 use Rattle.reading.specs.Actions.{Placed, actionsOf, lastOf, lastDisruptive, lastFlow, lastStatus, directiveIn}
 use Rattle.reading.specs.Markers.{markerPosition}
 use Rattle.reading.specs.Reading.{Reading, rust, manual, jumps, rustAdjacent, manualAdjacent, rustBreaks, manualBreaks, rustStatus, manualStatus}
@@ -235,5 +236,5 @@ differences =
 
 -- every row holds
 pub difference-table : allAsStated differences ≡ true
-unfolding differences allAsStated same trimStart before trimEnd trim fold allDigits valueFrom digits withoutPlus numberOf indexOf onFirst splitOn oneId idsTo idsFrom idPart anyBad rangesIn directiveOf isRemoved actionsOf lastOf lastDisruptive lastFlow directiveIn markerPosition ruleAt isLink actionsAt ruleControls unitDisruptive afterChain afterRule manualSkip
+unfolding differences allAsStated same trimStart before trimEnd trim fold allDigits valueFrom digits withoutPlus numberOf indexOf onFirst splitOn oneId idsTo idsFrom idPart anyBad rangesIn directiveOf addRange addRanges isRemoved actionsOf lastOf lastDisruptive lastFlow directiveIn markerPosition ruleAt isLink actionsAt ruleControls unitDisruptive afterChain afterRule manualSkip
 difference-table = refl

@@ -8,7 +8,8 @@ use Rattle.reading.specs.declared.OptionU64.{OptionU64}
 use Rattle.reading.specs.declared.OptionIntervention.{OptionIntervention}
 use Rattle.reading.specs.declared.RuleMetadata.{RuleMetadata}
 use Rattle.reading.specs.Numbers.{presentNumber, numberOrZero}
-use Rattle.reading.specs.Controls.{isRemoved, beyondLimits}
+use Rattle.reading.specs.Controls.{isRemoved, badControls}
+use Rattle.reading.specs.Ranges.{addRange, addRanges}
 use Rattle.reading.specs.Actions.{actionsOf, lastOf, lastDisruptive, lastFlow, metadataOf}
 use Rattle.reading.specs.Call.{ruleAt, isLink, idAt, outcomeAt, actionsAt}
 use Rattle.reading.specs.Refusals.{refused1, refused2, refused3, refused4, refused5, refused6, refused7, refused8, refused9, ruleTotal, refusalOf}
@@ -84,5 +85,5 @@ metadata =
 
 -- every row holds
 pub metadata-table : allKept metadata ≡ true
-unfolding metadata allKept isRemoved beyondLimits actionsOf lastOf lastDisruptive lastFlow metadataOf ruleAt isLink idAt outcomeAt actionsAt refused1 refused2 refused3 refused4 refused5 refused6 refused7 refused8 refused9 ruleTotal refusalOf ruleControls unitFlow unitDisruptive unitIntervention verdictAt afterChain visitAt walk walkOf visitsOf outcomeOf
+unfolding metadata allKept addRange addRanges isRemoved badControls actionsOf lastOf lastDisruptive lastFlow metadataOf ruleAt isLink idAt outcomeAt actionsAt refused1 refused2 refused3 refused4 refused5 refused6 refused7 refused8 refused9 ruleTotal refusalOf ruleControls unitFlow unitDisruptive unitIntervention verdictAt afterChain visitAt walk walkOf visitsOf outcomeOf
 metadata-table = refl

@@ -1,30 +1,29 @@
 -- The open points of docs/DECISIONS.md at their smallest telling inputs, as one table. Rows are named after the decision.
-use Prim.Native.Nat.{ℕ, _+_}
+use Prim.Native.Nat.{ℕ}
 use Prim.Native.String.{String}
 use mathlib.Core.Path.{_≡_, refl}
 use mathlib.Core.List.{List, [], _∷_, _++_, map}
-use mathlib.Core.Bool.{Bool, true, false}
-use lib.ListN.{replicate}
+use mathlib.Core.Bool.{true, false}
+use lib.ListN.{take, replicate}
 use Rattle.reading.specs.declared.RuleEngineMode.{RuleEngineMode}
 use Rattle.reading.specs.declared.BodyAccess.{BodyAccess}
 use Rattle.reading.specs.declared.BodyProcessor.{BodyProcessor}
 use Rattle.reading.specs.declared.ModeSetting.{ModeSetting}
 use Rattle.reading.specs.declared.AccessSetting.{AccessSetting}
 use Rattle.reading.specs.declared.ProcessorSetting.{ProcessorSetting}
-use Rattle.reading.specs.declared.RuleIdRange.{RuleIdRange}
 use Rattle.reading.specs.declared.CallSettings.{CallSettings}
 use Rattle.reading.specs.declared.Rule.{Rule}
 use Rattle.reading.specs.declared.Action.{Action}
 use Rattle.reading.specs.declared.Marker.{Marker}
-use Rattle.reading.specs.declared.DataEntry.{DataEntry}
-use Rattle.reading.specs.declared.JournalEntry.{JournalEntry}
 use Rattle.reading.specs.declared.OptionU64.{OptionU64}
+use Rattle.reading.specs.Lists.{gather}
 use Rattle.reading.specs.Text.{largest, same, trimStart, before, trimEnd, trim, fold, allDigits, valueFrom, digits, withoutPlus, numberOf, indexOf, onFirst, splitOn, oneId, idsTo, idsFrom, idPart, anyBad, rangesIn}
 use Rattle.reading.specs.Directive.{directiveOf}
-use Rattle.reading.specs.Controls.{Controls, noControls, isRemoved, beyondLimits}
+use Rattle.reading.specs.Controls.{Controls, noControls, isRemoved, badControls}
+use Rattle.reading.specs.Ranges.{addRange, addRanges}
 use Rattle.reading.specs.Actions.{actionsOf, lastOf, lastDisruptive, lastFlow, metadataOf, directiveIn}
 use Rattle.reading.specs.Markers.{markerPosition}
-use Rattle.reading.specs.Reading.{rust, manual}
+use Rattle.reading.specs.Reading.{rust}
 use Rattle.reading.specs.Call.{Given, Call, ruleAt, isLink, idAt, outcomeAt, actionsAt}
 use Rattle.reading.specs.Refusals.{refused1, refused2, refused3, refused4, refused5, refused6, refused7, refused8, refused9, ruleTotal, refusalOf}
 use Rattle.reading.specs.Units.{ruleControls, unitFlow, unitDisruptive, unitIntervention}
@@ -32,7 +31,7 @@ use Rattle.reading.specs.Walk.{verdictAt, afterChain, visitAt, walk, wal
 use Rattle.reading.specs.Replay.{unitsOf, lastClosed}
 use Rattle.reading.specs.Report.{reportWith, memberUnsupported}
 use Rattle.reading.specs.Outcome.{visitsOf, outcomeOf}
-use Rattle.reading.specs.Cases.Build.{deny, block, pass, allow, drop, chain, multiMatch, redirect, skipAfter, msg, skip, id, status, ctl, Written, Named, Row, none, stopped, stoppedWith, Told, rowOf, row, removal, settling, switching, targeting, failing, refused, rule, link, noId, noIdLink, withOutcome, missed, inError, marker, range, holding, callWith, callIn, call, callHolding, callManual, withJournal, withData, withIds, withRoom, nothing, matched, miss, removed, error, entry, noIdEntry, lentData, lentEntry, sameIds, sameVisits, sameData, sameStop, sameReport, holds, allHold}
+use Rattle.reading.specs.Cases.Build.{apart, deny, block, pass, allow, drop, chain, multiMatch, redirect, skipAfter, msg, skip, id, status, ctl, Written, Row, none, stopped, stoppedWith, Told, rowOf, row, removal, settling, switching, targeting, failing, refused, leaving, rule, link, noId, noIdLink, withOutcome, missed, inError, marker, range, holding, callWith, callIn, call, callHolding, callManual, withJournal, withData, withIds, withRoom, nothing, matched, miss, removed, error, entry, noIdEntry, lentData, sameIds, sameVisits, sameData, sameStop, sameReport, holds, allHold}
 
 -- WHAT IS HELD AT ENTRY
 
@@ -104,9 +103,10 @@ sharing first count = record { present = 0; id = 0; link = 0; first = first; cou
 abbrev times : {A : Type 0} → ℕ → A → List A
 times n a = replicate n a
 
--- the call with its first rule's one target action so many times over, and then its other actions; all point at the one text
+-- the call with its first action so many times over, all of them its first rule's, and then other actions; all point at the one text
 abbrev repeating : ℕ → List Rule → List Action → Call → Call
-repeating n rules others q = withRecords (sharing 0 n ∷ rules) (times n (action 19 0 0 20 20 3) ++ others) [] (q .given .text) (q .given .outcomes) q
+repeating n rules others q =
+    withRecords (sharing 0 n ∷ rules) (gather (times n) (take 1 (q .given .actions)) ++ others) [] (q .given .text) (q .given .outcomes) q
 
 abbrev target : Written
 target = noId (ctl "ruleRemoveTargetById" "1;A" ∷ [])
@@ -165,10 +165,10 @@ points =
     removal "D1" (call [] []) nothing 0 [] [] directives
     -- a target counts, whatever its id text
     ∷ targeting "D8" (call (rule 10 (ctl "ruleRemoveTargetById" " x ;y" ∷ []) ∷ []) []) (record { visits = matched 0 ∷ []; ids = 10 ∷ []; data-entries = entry 10 0 ∷ []; allowed = false; stop = none }) 1
-    -- a range that is held already is added again
-    ∷ removal "D11" (callHolding (range 7 7 ∷ []) (rule 10 (ctl "ruleRemoveById" "7,7" ∷ ctl "ruleRemoveById" "7" ∷ []) ∷ [])) (record { visits = matched 0 ∷ []; ids = 10 ∷ []; data-entries = entry 10 0 ∷ []; allowed = false; stop = none }) 4 (7 ∷ []) (6 ∷ 8 ∷ []) []
-    -- a held range with start above end removes nothing
-    ∷ removal "D15" (callHolding (range 5 4 ∷ []) (rule 5 [] ∷ [])) (record { visits = matched 0 ∷ []; ids = 5 ∷ []; data-entries = entry 5 0 ∷ []; allowed = false; stop = none }) 1 [] (4 ∷ 5 ∷ []) []
+    -- a range that is held already changes nothing
+    ∷ leaving (range 7 7 ∷ []) (row "D11" (callHolding (range 7 7 ∷ []) (rule 10 (ctl "ruleRemoveById" "7,7" ∷ ctl "ruleRemoveById" "7" ∷ []) ∷ [])) (record { visits = matched 0 ∷ []; ids = 10 ∷ []; data-entries = entry 10 0 ∷ []; allowed = false; stop = none }))
+    -- a held range with start above end
+    ∷ refused "D15" (callHolding (range 5 4 ∷ []) (rule 5 [] ∷ [])) 3
     -- the mode in force is the one the controls hold, if any
     ∷ row "D24a" (callWith rust RuleEngineMode.Off (inMode RuleEngineMode.On) false (rule 10 [] ∷ []) []) (record { visits = matched 0 ∷ []; ids = 10 ∷ []; data-entries = entry 10 0 ∷ []; allowed = false; stop = none })
     ∷ row "D24b" (callWith rust RuleEngineMode.On (inMode RuleEngineMode.Off) false (rule 10 [] ∷ []) []) nothing
@@ -206,6 +206,8 @@ points =
     ∷ row "D33b" (call (rule 19 [] ∷ link 20 (deny ∷ ctl "ruleEngine" "Off" ∷ []) ∷ []) []) (record { visits = matched 0 ∷ matched 1 ∷ []; ids = 19 ∷ []; data-entries = entry 19 0 ∷ []; allowed = false; stop = none })
     -- an action that two members share acts for each
     ∷ targeting "D34" (withRules (record { present = 0; id = 0; link = 1; first = 0; count = 1 } ∷ sharing 0 1 ∷ []) (withOutcomes (2 ∷ 2 ∷ []) (call (noId (ctl "ruleRemoveTargetById" "1;A" ∷ []) ∷ noId [] ∷ []) []))) (record { visits = matched 0 ∷ matched 1 ∷ []; ids = []; data-entries = noIdEntry 0 ∷ noIdEntry 1 ∷ []; allowed = false; stop = none }) 2
+    -- and its ranges are one
+    ∷ leaving (range 7 9 ∷ []) (row "D34b" (withRules (record { present = 0; id = 0; link = 1; first = 0; count = 1 } ∷ sharing 0 1 ∷ []) (withOutcomes (2 ∷ 2 ∷ []) (call (noId (ctl "ruleRemoveById" "7-9" ∷ []) ∷ noId [] ∷ []) []))) (record { visits = matched 0 ∷ matched 1 ∷ []; ids = []; data-entries = noIdEntry 0 ∷ noIdEntry 1 ∷ []; allowed = false; stop = none }))
     -- only the mode after all of a unit's controls counts
     ∷ switching RuleEngineMode.On
     (row "D35" (callIn RuleEngineMode.DetectionOnly (rule 10 (ctl "ruleEngine" "Off" ∷ ctl "ruleEngine" "On" ∷ deny ∷ []) ∷ []) []) (record { visits = matched 0 ∷ []; ids = 10 ∷ []; data-entries = entry 10 0 ∷ []; allowed = false; stop = stopped 403 (10 ∷ []) }))
@@ -292,7 +294,7 @@ points =
     ∷ refused "D14a" (withIds [] (call [] [])) 3
     ∷ refused "D14b" (withData [] (call [] [])) 3
     -- more than 256 ranges held
-    ∷ refused "D14c" (callWith rust RuleEngineMode.On (holding (times 257 (range 1 1))) false [] []) 3
+    ∷ refused "D14c" (callWith rust RuleEngineMode.On (holding (apart 257)) false [] []) 3
     -- an equal count is fine for 3
     ∷ row "D14d" (withData (lentData ∷ []) (withIds (9 ∷ []) (call [] []))) nothing
     -- and then 7 decides
@@ -332,21 +334,21 @@ points =
     ∷ refused "D19a" (withData (lentData ∷ []) (call (withOutcome 1 (rule 10 []) ∷ []) [])) 7
     ∷ refused "D19b" (withJournal [] (call (rule 10 [] ∷ []) [])) 7
     -- 8: counted rule by rule, a shared action for each
-    ∷ refused "D20a" (withRoom 5 5 5 (withRules (sharing 0 1 ∷ sharing 0 1 ∷ []) (callWith rust RuleEngineMode.On (holding (times 255 (range 1 1))) false (noId (ctl "ruleRemoveById" "7" ∷ []) ∷ []) []))) 8
+    ∷ refused "D20a" (withRoom 5 5 5 (withRules (sharing 0 1 ∷ sharing 0 1 ∷ []) (callWith rust RuleEngineMode.On (holding (apart 255)) false (noId (ctl "ruleRemoveById" "7" ∷ []) ∷ []) []))) 8
     -- an action that is part of no rule does not count
-    ∷ removal "D20b" (withRules [] (callWith rust RuleEngineMode.On (holding (times 256 (range 1 1))) false (noId (ctl "ruleRemoveById" "7" ∷ []) ∷ []) [])) nothing 256 [] [] []
+    ∷ removal "D20b" (withRules [] (callWith rust RuleEngineMode.On (holding (apart 256)) false (noId (ctl "ruleRemoveById" "7" ∷ []) ∷ []) [])) nothing 256 [] [] []
     -- rules that are missed count
-    ∷ refused "D20c" (callWith rust RuleEngineMode.On (holding (times 256 (range 1 1))) false (missed (rule 10 (ctl "ruleRemoveById" "7" ∷ [])) ∷ []) []) 8
+    ∷ refused "D20c" (callWith rust RuleEngineMode.On (holding (apart 256)) false (missed (rule 10 (ctl "ruleRemoveById" "7" ∷ [])) ∷ []) []) 8
     -- 256 in all are taken
-    ∷ removal "D20d" (callHolding (times 255 (range 1 1)) (rule 10 (ctl "ruleRemoveById" "7" ∷ []) ∷ []))
+    ∷ removal "D20d" (callHolding (apart 255) (rule 10 (ctl "ruleRemoveById" "7" ∷ []) ∷ []))
     (record { visits = matched 0 ∷ []; ids = 10 ∷ []; data-entries = entry 10 0 ∷ []; allowed = false; stop = none })
-    256 (1 ∷ 7 ∷ []) (10 ∷ []) []
+    256 (7 ∷ 1492 ∷ 2000 ∷ []) (10 ∷ 1490 ∷ 1999 ∷ []) []
     -- and so are 64 targets
     ∷ targeting "D20e" (repeating 64 [] [] (call (target ∷ []) []))
     (record { visits = matched 0 ∷ []; ids = []; data-entries = noIdEntry 0 ∷ []; allowed = false; stop = none }) 64
     -- 9: targets, and 8 comes first
     ∷ refused "D22a" (repeating 65 [] [] (call (target ∷ []) [])) 9
-    ∷ refused "D22b" (repeating 65 (sharing 65 1 ∷ []) (action 19 0 23 14 37 1 ∷ []) (callHolding (times 256 (range 1 1)) (target ∷ noId (ctl "ruleRemoveById" "7" ∷ []) ∷ []))) 8
+    ∷ refused "D22b" (repeating 65 (sharing 65 1 ∷ []) (action 19 0 23 14 37 1 ∷ []) (callHolding (apart 256) (target ∷ noId (ctl "ruleRemoveById" "7" ∷ []) ∷ []))) 8
     -- a call that would do nothing is refused too
     ∷ rowOf "D23" (withJournal [] (callWith rust RuleEngineMode.On noControls true (rule 10 [] ∷ []) [])) 7 0 (record { visits = []; ids = []; data-entries = []; allowed = true; stop = none }) 0 0 [] [] []
     -- the manual's reading: deny has the starter's last status action as its status
@@ -361,9 +363,38 @@ points =
     ∷ row "D79a" (callManual (rule 30 (skipAfter "A" ∷ []) ∷ rule 31 (deny ∷ []) ∷ []) (marker "A" 1 ∷ [])) (record { visits = matched 0 ∷ matched 1 ∷ []; ids = 30 ∷ 31 ∷ []; data-entries = entry 30 0 ∷ entry 31 1 ∷ []; allowed = false; stop = stopped 403 (31 ∷ []) })
     -- a smaller position is not
     ∷ row "D79b" (callManual (rule 30 (skipAfter "A" ∷ []) ∷ rule 31 [] ∷ []) (marker "A" 0 ∷ [])) (record { visits = matched 0 ∷ []; ids = 30 ∷ []; data-entries = entry 30 0 ∷ []; allowed = false; stop = none })
+    -- 8 counts the phase's own ranges as they are written, also where they are covered already, or would merge
+    ∷ refused "D81a" (repeating 256 [] [] (callHolding (range 0 largest ∷ []) (noId (ctl "ruleRemoveById" "1" ∷ []) ∷ []))) 8
+    ∷ leaving (range 0 largest ∷ []) (row "D81b" (repeating 255 [] [] (callHolding (range 0 largest ∷ []) (noId (ctl "ruleRemoveById" "1" ∷ []) ∷ []))) (record { visits = matched 0 ∷ []; ids = []; data-entries = noIdEntry 0 ∷ []; allowed = false; stop = none }))
+    ∷ refused "D81c" (callHolding (apart 256) (rule 10 (ctl "ruleRemoveById" "2001" ∷ []) ∷ [])) 8
+    -- 3: ranges that touch, that overlap, with equal starts, that are not sorted, with start above end, and after one that ends at the greatest number
+    ∷ refused "D82a" (callHolding (range 1 2 ∷ range 3 4 ∷ []) (rule 10 [] ∷ [])) 3
+    ∷ refused "D82b" (callHolding (range 1 5 ∷ range 3 4 ∷ []) (rule 10 [] ∷ [])) 3
+    ∷ refused "D82c" (callHolding (range 1 2 ∷ range 1 2 ∷ []) (rule 10 [] ∷ [])) 3
+    ∷ refused "D82d" (callHolding (range 4 5 ∷ range 1 2 ∷ []) (rule 10 [] ∷ [])) 3
+    ∷ refused "D82e" (callHolding (range 1 2 ∷ range 5 4 ∷ []) (rule 10 [] ∷ [])) 3
+    ∷ refused "D82f" (callHolding (range 3 largest ∷ range 5 5 ∷ []) (rule 10 [] ∷ [])) 3
+    -- an id between two is enough, and one may end at the greatest number
+    ∷ leaving (range 1 2 ∷ range 4 5 ∷ []) (row "D82g" (callHolding (range 1 2 ∷ range 4 5 ∷ []) (rule 10 [] ∷ [])) (record { visits = matched 0 ∷ []; ids = 10 ∷ []; data-entries = entry 10 0 ∷ []; allowed = false; stop = none }))
+    ∷ leaving (range largest largest ∷ []) (row "D82h" (callHolding (range largest largest ∷ []) (rule 10 [] ∷ [])) (record { visits = matched 0 ∷ []; ids = 10 ∷ []; data-entries = entry 10 0 ∷ []; allowed = false; stop = none }))
+    -- 3 comes after 2 and before 4, also of a call that would do nothing
+    ∷ refused "D82i" (withText (times 65537 65) (callHolding (range 1 2 ∷ range 3 4 ∷ []) [])) 2
+    ∷ refused "D82j" (withOutcomes [] (callHolding (range 1 2 ∷ range 3 4 ∷ []) (rule 10 [] ∷ []))) 3
+    ∷ refused "D82k" (callHolding (range 1 2 ∷ range 3 4 ∷ []) []) 3
+    -- "5-7 and 8-9 become 5-9", in either order, of one directive, and of two units
+    ∷ leaving (range 5 9 ∷ []) (row "D84a" (call (rule 10 (ctl "ruleRemoveById" "5-7,8-9" ∷ []) ∷ []) []) (record { visits = matched 0 ∷ []; ids = 10 ∷ []; data-entries = entry 10 0 ∷ []; allowed = false; stop = none }))
+    ∷ leaving (range 5 9 ∷ []) (row "D84b" (call (rule 10 (ctl "ruleRemoveById" "8-9,5-7" ∷ []) ∷ []) []) (record { visits = matched 0 ∷ []; ids = 10 ∷ []; data-entries = entry 10 0 ∷ []; allowed = false; stop = none }))
+    ∷ leaving (range 5 9 ∷ []) (row "D84c" (call (rule 1 (ctl "ruleRemoveById" "8-9" ∷ []) ∷ rule 2 (ctl "ruleRemoveById" "5-7" ∷ []) ∷ []) []) (record { visits = matched 0 ∷ matched 1 ∷ []; ids = 1 ∷ 2 ∷ []; data-entries = entry 1 0 ∷ entry 2 1 ∷ []; allowed = false; stop = none }))
+    -- one that lies apart comes to its place, and one that bridges others makes them one
+    ∷ leaving (range 1 1 ∷ range 5 5 ∷ range 8 8 ∷ []) (row "D84d" (callHolding (range 1 1 ∷ range 8 8 ∷ []) (rule 10 (ctl "ruleRemoveById" "5" ∷ []) ∷ [])) (record { visits = matched 0 ∷ []; ids = 10 ∷ []; data-entries = entry 10 0 ∷ []; allowed = false; stop = none }))
+    ∷ leaving (range 1 9 ∷ []) (row "D84e" (callHolding (range 1 1 ∷ range 4 5 ∷ range 8 9 ∷ []) (rule 10 (ctl "ruleRemoveById" "2-7" ∷ []) ∷ [])) (record { visits = matched 0 ∷ []; ids = 10 ∷ []; data-entries = entry 10 0 ∷ []; allowed = false; stop = none }))
+    -- at the greatest number
+    ∷ leaving (range 18446744073709551614 largest ∷ []) (row "D84f" (callHolding (range largest largest ∷ []) (rule 10 (ctl "ruleRemoveById" "18446744073709551614" ∷ []) ∷ [])) (record { visits = matched 0 ∷ []; ids = 10 ∷ []; data-entries = entry 10 0 ∷ []; allowed = false; stop = none }))
+    -- the visits are those that the plain list gives
+    ∷ leaving (range 6 9 ∷ []) (row "D117" (callHolding (range 6 7 ∷ []) (rule 5 (ctl "ruleRemoveById" "8-9" ∷ []) ∷ rule 8 [] ∷ rule 4 [] ∷ [])) (record { visits = matched 0 ∷ removed 1 ∷ matched 2 ∷ []; ids = 5 ∷ 4 ∷ []; data-entries = entry 5 0 ∷ entry 4 2 ∷ []; allowed = false; stop = none }))
     ∷ []
 
 -- every row holds
 pub point-table : allHold points ≡ true
-unfolding points directives allHold holds sameIds sameVisits sameData sameStop sameReport reportWith memberUnsupported same trimStart before trimEnd trim fold allDigits valueFrom digits withoutPlus numberOf indexOf onFirst splitOn oneId idsTo idsFrom idPart anyBad rangesIn directiveOf isRemoved beyondLimits actionsOf lastOf lastDisruptive lastFlow metadataOf directiveIn markerPosition ruleAt isLink idAt outcomeAt actionsAt refused1 refused2 refused3 refused4 refused5 refused6 refused7 refused8 refused9 ruleTotal refusalOf ruleControls unitFlow unitDisruptive unitIntervention verdictAt afterChain visitAt walk walkOf visitsOf outcomeOf unitsOf lastClosed
+unfolding points directives allHold holds sameIds sameVisits sameData sameStop sameReport reportWith memberUnsupported same trimStart before trimEnd trim fold allDigits valueFrom digits withoutPlus numberOf indexOf onFirst splitOn oneId idsTo idsFrom idPart anyBad rangesIn directiveOf addRange addRanges isRemoved badControls actionsOf lastOf lastDisruptive lastFlow metadataOf directiveIn markerPosition ruleAt isLink idAt outcomeAt actionsAt refused1 refused2 refused3 refused4 refused5 refused6 refused7 refused8 refused9 ruleTotal refusalOf ruleControls unitFlow unitDisruptive unitIntervention verdictAt afterChain visitAt walk walkOf visitsOf outcomeOf unitsOf lastClosed
 point-table = refl

@@ -11,17 +11,17 @@ use Rattle.reading.specs.declared.BodyAccess.{BodyAccess}
 use Rattle.reading.specs.declared.ModeSetting.{ModeSetting}
 use Rattle.reading.specs.declared.AccessSetting.{AccessSetting}
 use Rattle.reading.specs.declared.ProcessorSetting.{ProcessorSetting}
-use Rattle.reading.specs.declared.RuleIdRange.{RuleIdRange}
 use Rattle.reading.specs.declared.Place.{Place}
 use Rattle.reading.specs.declared.OptionU64.{OptionU64}
 use Rattle.reading.specs.declared.Action.{Action}
 use Rattle.reading.specs.Numbers.{modeNumber, accessNumber, readNumber, readValue, disruptiveKind, disruptiveValue, flowKind, flowValue}
 use Rattle.reading.specs.Text.{ascii, same, trimStart, before, trimEnd, trim, fold, allDigits, valueFrom, digits, withoutPlus, numberOf, indexOf, onFirst, splitOn, oneId, idsTo, idsFrom, idPart, anyBad, rangesIn}
 use Rattle.reading.specs.Directive.{directiveOf, readerAnswer, ReaderOutcome, readerOutcome}
-use Rattle.reading.specs.Controls.{Controls, isRemoved, beyondLimits, askMode, askRemoved, askTargetCount, askTarget, askAccess, addRangeAnswer, addRangesAnswer, addTargetAnswer, withRange, withAllRanges, withTarget}
+use Rattle.reading.specs.Controls.{Controls, isRemoved, badControls, askMode, askRemoved, askTargetCount, askTarget, askAccess, addRangeAnswer, addTargetAnswer, withRange, withTarget}
+use Rattle.reading.specs.Ranges.{addRange}
 use Rattle.reading.specs.Actions.{Placed, lastOf, lastDisruptive, lastFlow, lastDisruptiveKind, lastDisruptiveValue, lastFlowKind, lastFlowValue}
 use Rattle.reading.specs.Records.{actionAt, actionList}
-use Rattle.reading.specs.Cases.Build.{eqBool}
+use Rattle.reading.specs.Cases.Build.{eqBool, range, apart, allTrue}
 
 -- THE READER: the answer, the form of the directive with its number, and both lists
 
@@ -73,6 +73,9 @@ reads =
     ∷ removing (ascii "1,5-7") 2 0 2 2 (1 ∷ 5 ∷ []) (1 ∷ 7 ∷ [])
     -- ranges go to the start of the lists, and the rest is as found
     ∷ removing (ascii " 3 - 4 ,") 3 0 2 1 (3 ∷ 9 ∷ 9 ∷ []) (4 ∷ 9 ∷ 9 ∷ [])
+    -- D83: they stay as they are read, neither sorted nor merged
+    ∷ removing (ascii "5-7,8-9") 2 0 2 2 (5 ∷ 8 ∷ []) (7 ∷ 9 ∷ [])
+    ∷ removing (ascii "8-9,5-7,5-7") 3 0 2 3 (8 ∷ 5 ∷ 5 ∷ []) (9 ∷ 7 ∷ 7 ∷ [])
     -- D174: beside a refusal there is no reason, also where the directive would have one; D6: 2 is for one of the texts by itself, and comes first
     ∷ reading (replicate 65537 255) [] 2 0 0
     ∷ reading [] (replicate 65537 32) 2 0 0
@@ -105,25 +108,17 @@ read-table = refl
 
 -- THE CONTROLS
 
-abbrev range : ℕ → ℕ → RuleIdRange
-range from to = record { start = from; end = to }
-
 abbrev place : ℕ → Place
 place position = record { phase = 1; position = position }
 
 abbrev holding : ℕ → ℕ → Controls
 holding ranges targets = record {
   mode = ModeSetting.Set RuleEngineMode.DetectionOnly;
-  ranges = replicate ranges (range 5 7);
+  ranges = apart ranges;
   targets = replicate targets (place 4);
   access = AccessSetting.Set BodyAccess.Off;
   processor = ProcessorSetting.Unset;
 }
-
--- a condition for each line
-pub allTrue : List Bool → Bool
-allTrue [] = true
-allTrue (b ∷ bs) = b && allTrue bs
 
 -- D9: every question meets the whole of 3
 abbrev questions : List Bool
@@ -135,8 +130,8 @@ questions =
     ∷ eqb (askAccess (holding 257 0) .answer) 3
     ∷ eqb (askMode RuleEngineMode.On (holding 256 64) .answer) 0
     ∷ eqb (modeNumber (askMode RuleEngineMode.On (holding 256 64) .value)) 1
-    ∷ eqBool (askRemoved (holding 1 0) (OptionU64.Some 7) .value) true
-    ∷ eqBool (askRemoved (holding 1 0) (OptionU64.Some 8) .value) false
+    ∷ eqBool (askRemoved (holding 1 0) (OptionU64.Some 2000) .value) true
+    ∷ eqBool (askRemoved (holding 1 0) (OptionU64.Some 2001) .value) false
     ∷ eqBool (askRemoved (holding 1 0) OptionU64.None .value) false
     ∷ eqb (askTargetCount (holding 0 64) .value) 64
     ∷ eqb (accessNumber (askAccess (holding 0 0) .value)) 1
@@ -156,16 +151,6 @@ additions =
     ∷ eqb (length (withRange (holding 256 0) (range 5 5) .ranges)) 256
     ∷ eqb (length (withTarget (holding 0 64) (place 1) .targets)) 64
     ∷ eqb (length (withTarget (holding 0 63) (place 1) .targets)) 64
-    ∷ []
-
--- D136: the ranges of one directive, all or none
-abbrev joint-additions : List Bool
-joint-additions =
-    eqb (addRangesAnswer (holding 0 65) []) 3
-    ∷ eqb (addRangesAnswer (holding 255 0) (range 1 1 ∷ range 2 2 ∷ [])) 8
-    ∷ eqb (addRangesAnswer (holding 255 64) (range 1 1 ∷ [])) 0
-    ∷ eqb (length (withAllRanges (holding 255 0) (range 1 1 ∷ range 2 2 ∷ []) .ranges)) 255
-    ∷ eqb (length (withAllRanges (holding 254 0) (range 1 1 ∷ range 2 2 ∷ []) .ranges)) 256
     ∷ []
 
 -- D137: six numbers to an action, and what is left over is none
@@ -210,16 +195,12 @@ outcomes =
     ∷ []
 
 pub question-table : allTrue questions ≡ true
-unfolding allTrue beyondLimits isRemoved
+unfolding allTrue badControls isRemoved
 question-table = refl
 
 pub addition-table : allTrue additions ≡ true
-unfolding allTrue beyondLimits addRangeAnswer addTargetAnswer
+unfolding allTrue badControls addRangeAnswer addTargetAnswer addRange
 addition-table = refl
-
-pub joint-addition-table : allTrue joint-additions ≡ true
-unfolding allTrue beyondLimits addRangesAnswer
-joint-addition-table = refl
 
 pub record-table : allTrue records ≡ true
 unfolding allTrue actionList

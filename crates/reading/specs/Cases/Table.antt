@@ -7,7 +7,8 @@ use mathlib.Core.Bool.{Bool, true, false}
 use Rattle.reading.specs.declared.RuleEngineMode.{RuleEngineMode}
 use Rattle.reading.specs.Text.{same, trimStart, before, trimEnd, trim, fold, allDigits, valueFrom, digits, withoutPlus, numberOf, indexOf, onFirst, splitOn, oneId, idsTo, idsFrom, idPart, anyBad, rangesIn}
 use Rattle.reading.specs.Directive.{directiveOf}
-use Rattle.reading.specs.Controls.{isRemoved, beyondLimits}
+use Rattle.reading.specs.Controls.{isRemoved, badControls}
+use Rattle.reading.specs.Ranges.{addRange, addRanges}
 use Rattle.reading.specs.Actions.{actionsOf, lastOf, lastDisruptive, lastFlow, metadataOf, directiveIn}
 use Rattle.reading.specs.Markers.{markerPosition}
 use Rattle.reading.specs.Call.{ruleAt, isLink, idAt, outcomeAt, actionsAt}
@@ -82,5 +83,5 @@ cases =
 
 -- every row holds
 pub table : allHold cases ≡ true
-unfolding cases allHold holds sameIds sameVisits sameData sameStop sameReport reportWith memberUnsupported same trimStart before trimEnd trim fold allDigits valueFrom digits withoutPlus numberOf indexOf onFirst splitOn oneId idsTo idsFrom idPart anyBad rangesIn directiveOf isRemoved beyondLimits actionsOf lastOf lastDisruptive lastFlow metadataOf directiveIn markerPosition ruleAt isLink idAt outcomeAt actionsAt refused1 refused2 refused3 refused4 refused5 refused6 refused7 refused8 refused9 ruleTotal refusalOf ruleControls unitFlow unitDisruptive unitIntervention verdictAt afterChain visitAt walk walkOf visitsOf outcomeOf unitsOf lastClosed
+unfolding cases allHold holds sameIds sameVisits sameData sameStop sameReport reportWith memberUnsupported same trimStart before trimEnd trim fold allDigits valueFrom digits withoutPlus numberOf indexOf onFirst splitOn oneId idsTo idsFrom idPart anyBad rangesIn directiveOf addRange addRanges isRemoved badControls actionsOf lastOf lastDisruptive lastFlow metadataOf directiveIn markerPosition ruleAt isLink idAt outcomeAt actionsAt refused1 refused2 refused3 refused4 refused5 refused6 refused7 refused8 refused9 ruleTotal refusalOf ruleControls unitFlow unitDisruptive unitIntervention verdictAt afterChain visitAt walk walkOf visitsOf outcomeOf unitsOf lastClosed
 table = refl

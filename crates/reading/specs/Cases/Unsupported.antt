@@ -6,7 +6,8 @@ use mathlib.Core.Bool.{true, false}
 use Rattle.reading.specs.declared.RuleEngineMode.{RuleEngineMode}
 use Rattle.reading.specs.Text.{same, trimStart, before, trimEnd, trim, fold, allDigits, valueFrom, digits, withoutPlus, numberOf, indexOf, onFirst, splitOn, oneId, idsTo, idsFrom, idPart, anyBad, rangesIn}
 use Rattle.reading.specs.Directive.{directiveOf}
-use Rattle.reading.specs.Controls.{isRemoved, beyondLimits}
+use Rattle.reading.specs.Controls.{isRemoved, badControls}
+use Rattle.reading.specs.Ranges.{addRange, addRanges}
 use Rattle.reading.specs.Actions.{actionsOf, lastOf, lastDisruptive, lastFlow, metadataOf, directiveIn}
 use Rattle.reading.specs.Markers.{markerPosition}
 use Rattle.reading.specs.Reading.{manual}
@@ -34,7 +35,7 @@ passedOver =
     ∷ passingOver 0 3 (row "D69g" (call (rule 10 (ctl "ruleRemoveTargetById" "1 ARGS" ∷ ctl "foo" "1" ∷ []) ∷ []) []) (record { visits = matched 0 ∷ []; ids = 10 ∷ []; data-entries = entry 10 0 ∷ []; allowed = false; stop = none }))
     -- a supported directive before it is not told
     ∷ passingOver 0 1 (switching RuleEngineMode.DetectionOnly (row "D69h" (call (rule 10 (ctl "ruleEngine" "DetectionOnly" ∷ ctl "ruleEngine" "Maybe" ∷ []) ∷ []) []) (record { visits = matched 0 ∷ []; ids = 10 ∷ []; data-entries = entry 10 0 ∷ []; allowed = false; stop = none })))
-    -- behind a broken chain
+    -- after a broken chain
     ∷ passingOver 2 2 (row "D69i" (call (link 1 (ctl "foo" "1" ∷ []) ∷ missed (rule 2 []) ∷ rule 3 (ctl "ruleRemoveById" "1,5-4" ∷ []) ∷ []) []) (record { visits = matched 0 ∷ miss 1 ∷ matched 2 ∷ []; ids = 3 ∷ []; data-entries = entry 3 2 ∷ []; allowed = false; stop = none }))
     -- of a missed rule, and of a removed one
     ∷ row "D69j" (call (missed (rule 10 (ctl "foo" "1" ∷ [])) ∷ []) []) (record { visits = miss 0 ∷ []; ids = []; data-entries = []; allowed = false; stop = none })
@@ -56,5 +57,5 @@ passedOver =
 
 -- every row holds
 pub unsupported-table : allHold passedOver ≡ true
-unfolding passedOver allHold holds sameIds sameVisits sameData sameStop sameReport reportWith memberUnsupported same trimStart before trimEnd trim fold allDigits valueFrom digits withoutPlus numberOf indexOf onFirst splitOn oneId idsTo idsFrom idPart anyBad rangesIn directiveOf isRemoved beyondLimits actionsOf lastOf lastDisruptive lastFlow metadataOf directiveIn markerPosition ruleAt isLink idAt outcomeAt actionsAt refused1 refused2 refused3 refused4 refused5 refused6 refused7 refused8 refused9 ruleTotal refusalOf ruleControls unitFlow unitDisruptive unitIntervention verdictAt afterChain visitAt walk walkOf visitsOf outcomeOf unitsOf lastClosed
+unfolding passedOver allHold holds sameIds sameVisits sameData sameStop sameReport reportWith memberUnsupported same trimStart before trimEnd trim fold allDigits valueFrom digits withoutPlus numberOf indexOf onFirst splitOn oneId idsTo idsFrom idPart anyBad rangesIn directiveOf addRange addRanges isRemoved badControls actionsOf lastOf lastDisruptive lastFlow metadataOf directiveIn markerPosition ruleAt isLink idAt outcomeAt actionsAt refused1 refused2 refused3 refused4 refused5 refused6 refused7 refused8 refused9 ruleTotal refusalOf ruleControls unitFlow unitDisruptive unitIntervention verdictAt afterChain visitAt walk walkOf visitsOf outcomeOf unitsOf lastClosed
 unsupported-table = refl

@@ -9,8 +9,6 @@ use lib.ListN.{length}
 use lib.Dec.{ltb}
 use Rattle.reading.specs.Lists.{any}
 use Rattle.reading.specs.Directive.{isHigh}
-use Rattle.reading.specs.Limits.{mostRanges, mostTargets}
-use Rattle.reading.specs.Controls.{beyondLimits}
 use Rattle.reading.specs.declared.CallSettings.{CallSettings}
 use Rattle.reading.specs.Records.{ruleList, actionList, markerList, givenOf}
 use Rattle.reading.specs.Call.{Call, Transaction, Lists}
@@ -36,13 +34,12 @@ module _ {q : Call} {call : CallSettings} {counts : Counts} {sizes : Sizes} (l :
   says-2 h e = rw (l .rules, l .actions, l .markers, l .bytes) (sym h ∙ e)
 
   pub says-3 : {b t : Bool}
-      → b ≡ ((ltb mostRanges (sizes .ranges) || ltb mostTargets (sizes .targets))
-      || ltb (sizes .ids) (sizes .«ids_used») || ltb (sizes .entries) (sizes .«entries_used»))
+      → b ≡ (sizes .«bad_controls» || ltb (sizes .ids) (sizes .«ids_used») || ltb (sizes .entries) (sizes .«entries_used»))
       → b ≡ t → refused3 q ≡ t
-  unfolding refused3 beyondLimits
+  unfolding refused3
   says-3 h e =
       let s = l .sized in
-      rw (s .ranges, s .targets, s .ids, s .ids-used, s .entries, s .entries-used) (sym h ∙ e)
+      rw (s .controls, s .ids, s .ids-used, s .entries, s .entries-used) (sym h ∙ e)
 
   pub differ : (counts .outcomes ≡ counts .rules → ⊥) → refused4 q ≡ true
   unfolding refused4

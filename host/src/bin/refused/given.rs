@@ -1,9 +1,9 @@
 //! Everything that a call is given, with guards around the lists that it writes.
 
-use tivembo::raw::{words, Lent, Lists};
+use tivembo::raw::{self, words, Lent, Lists};
 use tivembo::{
     Action, CallSettings, HostAnswer, HostTransaction, Marker, Mode, Outcome, Records, Rule,
-    Transaction,
+    Transaction, MOST_RANGES, MOST_TARGETS,
 };
 
 use crate::random::Random;
@@ -140,5 +140,39 @@ impl Given {
         let refused = ran.err().map_or(0, |refusal| refusal.number());
         let checked = records.check().err();
         refused == checked.map_or(0, |broken| broken.limit.number())
+    }
+    /// Whether every question to the controls and every addition to them is answered 3 and changes nothing.
+    pub fn controls_are_refused(&self) -> bool {
+        let c = self.transaction.controls;
+        let asked = [
+            raw::engine_mode(c, 0),
+            raw::is_rule_removed(c, Some(1).into()),
+            raw::is_rule_removed(c, None.into()),
+            raw::target_count(c),
+            raw::request_body_access(c),
+            raw::request_body_processor(c),
+        ];
+        let changed = [
+            raw::remove_range(c, 5, 5),
+            raw::remove_range(c, 6, 5),
+            raw::remove_target(c, 1, 0),
+        ];
+        raw::target_at(c, 0).answer == 3
+            && asked.iter().all(|asked| asked.answer == 3)
+            && changed.iter().all(|it| it.answer == 3 && it.controls == c)
+    }
+
+    /// Whether the crate finds the ranges held not to be merged.
+    pub fn has_range_fault(&self) -> bool {
+        let transaction = Transaction::from_record(self.transaction, Vec::new(), Vec::new());
+        transaction.controls().range_fault().is_some()
+    }
+
+    /// Whether the crate says of the ranges held what a question says, whatever the record holds.
+    pub fn has_fault_told(&self) -> bool {
+        let c = self.transaction.controls;
+        let counts_more = c.ranges > MOST_RANGES as u64 || c.targets > MOST_TARGETS as u64;
+        let is_refused = raw::target_count(c).answer == 3;
+        is_refused == (counts_more || self.has_range_fault())
     }
 }

@@ -182,21 +182,12 @@ fn rule(random: &mut Random, actions: usize) -> Rule {
     }
 }
 
-/// A transaction with known numbers, and any where 01 does not look: in arrays, and in what is absent.
+/// A transaction with known numbers and merged ranges, and any numbers where the papers do not look: in array places after those in
+/// use, and in what is absent.
 fn transaction(random: &mut Random) -> HostTransaction {
     let present = random.number(2);
     HostTransaction {
-        controls: HostControls {
-            mode: random.number(4),
-            access: random.number(3),
-            processor: random.number(5),
-            ranges: random.number(HELD_RANGES + 1),
-            targets: random.number(HELD_TARGETS + 1),
-            starts: std::array::from_fn(|_| random.wild()),
-            ends: std::array::from_fn(|_| random.wild()),
-            phases: std::array::from_fn(|_| random.wild()),
-            positions: std::array::from_fn(|_| random.wild()),
-        },
+        controls: controls(random),
         allowed: random.number(2),
         intervention: HostIntervention {
             present,
@@ -204,6 +195,39 @@ fn transaction(random: &mut Random) -> HostTransaction {
         },
         ids: random.number(6),
         entries: random.number(6),
+    }
+}
+
+fn controls(random: &mut Random) -> HostControls {
+    let mut controls = HostControls {
+        mode: random.number(4),
+        access: random.number(3),
+        processor: random.number(5),
+        ranges: 0,
+        targets: random.number(HELD_TARGETS + 1),
+        starts: std::array::from_fn(|_| random.wild()),
+        ends: std::array::from_fn(|_| random.wild()),
+        phases: std::array::from_fn(|_| random.wild()),
+        positions: std::array::from_fn(|_| random.wild()),
+    };
+    let count = random.number(HELD_RANGES + 1);
+    hold(&mut controls, count, random);
+    controls
+}
+
+/// Holds so many ranges, in the form in which 02 has them held: each starts at least two above the end before it.
+pub fn hold(controls: &mut HostControls, count: u64, random: &mut Random) {
+    controls.ranges = count;
+    let mut start = random.number(2);
+    // With room for 256, each takes an id at least and leaves one free.
+    let widest = random.of(&[1, 3, 1 << 40, (u64::MAX - 2) / 512]);
+    for at in 0..count as usize {
+        let end = start + random.number(widest);
+        (controls.starts[at], controls.ends[at]) = (start, end);
+        start = end + 2 + random.number(widest);
+    }
+    if count > 0 && random.one_in(4) {
+        controls.ends[count as usize - 1] = u64::MAX;
     }
 }
 

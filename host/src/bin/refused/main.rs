@@ -1,14 +1,17 @@
 //! refused [--planted WRONG] [N [SEED]]
 //! refused --wrong
 //!
-//! Makes N calls that must be refused: each of 01's nine reasons alone and every pair of them, planted in random calls
-//! to which none applies. The answer must be the smaller number, with nothing told beside it, and every byte of the
+//! Makes N calls that must be refused: each of the papers' nine reasons alone and every pair of them, planted in random calls to
+//! which none applies. Of 3, held ranges that touch, overlap, are out of order, start above their end or follow the largest number
+//! are reasons of their own. The answer must be the smaller number, with nothing told beside it, and every byte of the
 //! transaction, the lists and what stands around the lists must be as lent. Which number is right comes from what was
-//! planted, not from any code of ours. Half of the random calls have an unsupported directive in a unit that closes where
+//! planted, not from any code of ours. Where ranges are held in such a form, every question to the controls and every
+//! addition to them must be refused too. Half of the random calls have an unsupported directive in a unit that closes where
 //! they are not refused, and how many would tell of one is printed.
 //! Then it makes N calls with records that hold anything: they may be answered as they like, but must return, keep
-//! to their lists, and leave everything as lent where they are refused. For all of these, what the crate's own check of a
-//! rule set says of the records must be what a call says that has no other fault.
+//! to their lists, leave everything as lent where they are refused, and leave merged ranges where they are not. For all of
+//! these, what the crate's own check of a rule set says of the records must be what a call says that has no other fault, and
+//! what it says of the ranges held must be what a question says.
 //!
 //! The last line is `N refused and N wild calls, W wrong`; the exit status is 1 where W is not 0. With --planted a wrong
 //! call stands in for ours, which must be found; --wrong lists them.
@@ -24,7 +27,7 @@ use std::env;
 use std::process::ExitCode;
 
 use given::{Given, PhaseCall};
-use plant::FAULTS;
+use plant::{Fault, FAULTS};
 use planted::WRONG;
 use random::Random;
 use tivembo::{HostAnswer, UnsupportedAt};
@@ -74,10 +77,13 @@ fn options(words: &[String]) -> Option<Options> {
     Some(Options { count, seed, call })
 }
 
-/// Each fault alone, then every pair, the greater number first; counted from 0.
-fn plans() -> Vec<Vec<usize>> {
-    let alone = (0..FAULTS.len()).map(|fault| vec![fault]);
-    let pairs = (0..FAULTS.len()).flat_map(|more| (0..more).map(move |less| vec![more, less]));
+/// Each fault alone, then every pair of two numbers, the greater one first.
+fn plans() -> Vec<Vec<&'static Fault>> {
+    let alone = FAULTS.iter().map(|fault| vec![fault]);
+    let pairs = FAULTS.iter().flat_map(|more| {
+        let less = FAULTS.iter().filter(|less| less.number < more.number);
+        less.map(move |less| vec![more, less])
+    });
     alone.chain(pairs).collect()
 }
 
@@ -98,12 +104,16 @@ fn run_refused(options: &Options, random: &mut Random) -> u64 {
         }
         let mut given = base.clone();
         plan.iter()
-            .for_each(|&fault| FAULTS[fault](&mut given, random));
-        let expected = plan.last().map_or(0, |&fault| fault as u64 + 1);
+            .for_each(|fault| (fault.plant)(&mut given, random));
+        let expected = plan.last().map_or(0, |fault| fault.number);
         let before = given.clone();
         let found = given.call(options.call);
-        let is_right = found == refused_with(expected) && given == before && before.is_checked();
-        let what = format!("faults {plan:?}, counted from 0, expected {expected}");
+        let is_right = found == refused_with(expected)
+            && given == before
+            && is_consistent(&before)
+            && (!plan.iter().any(|it| it.is_of_controls) || before.controls_are_refused());
+        let names: Vec<&str> = plan.iter().map(|fault| fault.name).collect();
+        let what = format!("{}, expected {expected}", names.join(" and "));
         wrong += tell(is_right, wrong, &what, &before, &found);
         answers[expected as usize] += 1;
         telling += u64::from(tells);
@@ -114,6 +124,11 @@ fn run_refused(options: &Options, random: &mut Random) -> u64 {
     );
     println!("calls that would tell of an unsupported directive: {telling}");
     wrong
+}
+
+/// Whether the crate's own checks, of the rule set and of the ranges held, say what calls say.
+fn is_consistent(given: &Given) -> bool {
+    given.is_checked() && given.has_fault_told()
 }
 
 /// A refusal and nothing beside it: no visit, no error, and nothing told.
@@ -131,7 +146,7 @@ fn run_wild(options: &Options, random: &mut Random) -> u64 {
         let mut given = wild::wild(random);
         let before = given.clone();
         let found = given.call(options.call);
-        let is_right = is_possible(&found, &given, &before) && before.is_checked();
+        let is_right = is_possible(&found, &given, &before) && is_consistent(&before);
         wrong += tell(is_right, wrong, "anything", &before, &found);
         answers[found.answer.min(10) as usize] += 1;
     }
@@ -143,10 +158,11 @@ fn run_wild(options: &Options, random: &mut Random) -> u64 {
 fn is_possible(found: &HostAnswer, given: &Given, before: &Given) -> bool {
     let rules = given.rules.len() as u64;
     let walked = found.visits <= rules && tells_possibly(found, rules);
+    let keeps = given.keeps_guards_of(before) && !given.has_range_fault();
     match found.answer {
-        0 => walked && found.error == 0 && given.keeps_guards_of(before),
+        0 => walked && found.error == 0 && keeps,
         1..=9 => *found == refused_with(found.answer) && given == before,
-        10 => walked && found.error < rules && given.keeps_guards_of(before),
+        10 => walked && found.error < rules && keeps,
         _ => false,
     }
 }

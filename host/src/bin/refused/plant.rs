@@ -4,20 +4,52 @@
 use tivembo::{Action, HostIntervention, Marker, Part, Rule};
 
 use crate::given::Given;
-use crate::legal::most;
+use crate::legal::{hold, most};
 use crate::random::Random;
 
-/// The fault of each number, from 1 on.
-pub const FAULTS: [fn(&mut Given, &mut Random); 9] = [
-    unknown_phase_or_mode,
-    too_large,
-    miscounted,
-    outcome_count,
-    bad_record,
-    high_byte,
-    no_room,
-    too_many_ranges,
-    too_many_targets,
+/// A reason to refuse a call.
+pub struct Fault {
+    /// The answer.
+    pub number: u64,
+    pub name: &'static str,
+    pub plant: fn(&mut Given, &mut Random),
+    /// Whether questions to the controls and additions to them are refused with 3 too.
+    pub is_of_controls: bool,
+}
+
+const fn fault(number: u64, name: &'static str, plant: fn(&mut Given, &mut Random)) -> Fault {
+    Fault {
+        number,
+        name,
+        plant,
+        is_of_controls: false,
+    }
+}
+
+/// Ranges that are held in a form that is refused with 3.
+const fn form(name: &'static str, plant: fn(&mut Given, &mut Random)) -> Fault {
+    Fault {
+        is_of_controls: true,
+        ..fault(3, name, plant)
+    }
+}
+
+/// In the order of their numbers. 3 has several, so that each form of ranges that is none meets every other fault.
+pub static FAULTS: [Fault; 14] = [
+    fault(1, "unknown phase or mode", unknown_phase_or_mode),
+    fault(2, "too large", too_large),
+    fault(3, "more than there is", miscounted),
+    form("ranges that touch", touching),
+    form("ranges that overlap", overlapping),
+    form("ranges out of order", unsorted),
+    form("a range that starts above its end", backwards),
+    form("a range after the largest number", after_largest),
+    fault(4, "number of outcomes", outcome_count),
+    fault(5, "bad record", bad_record),
+    fault(6, "high byte", high_byte),
+    fault(7, "no room", no_room),
+    fault(8, "too many ranges", too_many_ranges),
+    fault(9, "too many targets", too_many_targets),
 ];
 
 fn unknown_phase_or_mode(given: &mut Given, random: &mut Random) {
@@ -50,6 +82,56 @@ fn miscounted(given: &mut Given, random: &mut Random) {
         2 => transaction.ids = random.above(ids),
         _ => transaction.entries = random.above(entries),
     }
+}
+
+/// Two neighbours among the ranges held, by the index of the second. Where there are not as many, some more are held.
+fn neighbours(given: &mut Given, random: &mut Random) -> usize {
+    let controls = &mut given.transaction.controls;
+    if controls.ranges < 2 {
+        hold(controls, 2 + random.number(3), random);
+    }
+    1 + random.below(controls.ranges as usize - 1)
+}
+
+fn touching(given: &mut Given, random: &mut Random) {
+    let at = neighbours(given, random);
+    let controls = &mut given.transaction.controls;
+    controls.starts[at] = controls.ends[at - 1] + 1;
+}
+
+/// The second starts within the first: at its end, at its start, or between.
+fn overlapping(given: &mut Given, random: &mut Random) {
+    let at = neighbours(given, random);
+    let controls = &mut given.transaction.controls;
+    let (start, end) = (controls.starts[at - 1], controls.ends[at - 1]);
+    let within = start + random.number(end - start + 1);
+    controls.starts[at] = random.of(&[start, end, within]);
+}
+
+/// The two change places.
+fn unsorted(given: &mut Given, random: &mut Random) {
+    let at = neighbours(given, random);
+    let controls = &mut given.transaction.controls;
+    controls.starts.swap(at - 1, at);
+    controls.ends.swap(at - 1, at);
+}
+
+fn backwards(given: &mut Given, random: &mut Random) {
+    let at = neighbours(given, random);
+    let controls = &mut given.transaction.controls;
+    let start = controls.starts[at];
+    let below = random.number(start);
+    controls.ends[at] = random.of(&[start - 1, 0, below]);
+}
+
+/// 18446744073709551615 has no follower; in a sum that wraps 0 and 1 would be after it.
+fn after_largest(given: &mut Given, random: &mut Random) {
+    let at = neighbours(given, random);
+    let controls = &mut given.transaction.controls;
+    controls.ends[at - 1] = u64::MAX;
+    let small = random.number(3);
+    (controls.starts[at], controls.ends[at]) = (small, small.max(random.wild()));
+    controls.ranges = at as u64 + 1;
 }
 
 fn outcome_count(given: &mut Given, random: &mut Random) {
@@ -209,7 +291,7 @@ fn too_many_ranges(given: &mut Given, random: &mut Random) {
     let rules = given.rules.len();
     match random.below(3) {
         0 => {
-            given.transaction.controls.ranges = 256;
+            hold(&mut given.transaction.controls, 256, random);
             directive(given, random, "ruleRemoveById", " +7 ", 1, 1);
         }
         1 => directive(given, random, "RuleRemoveByID", &"1-2,".repeat(257), 1, 1),

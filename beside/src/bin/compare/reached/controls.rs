@@ -6,7 +6,7 @@ use case_format::Mode;
 use oracle::CtlDirective;
 
 use super::walked::Unit;
-use super::{Feature as F, Marks, Seen};
+use super::{has, Feature as F, Marks, Seen};
 
 /// The supported directives as the manual writes them.
 const NAMES: [&[u8]; 5] = [
@@ -90,23 +90,15 @@ fn settings(seen: &Seen, marks: &mut Marks) {
             marks.set_below(first, line as usize);
         }
     }
-    let (held, added) = rust.ranges.split_at(seen.before.ranges.len());
-    marks.set_if(!added.is_empty(), F::RangesAdded);
-    marks.set_if(
-        added.iter().any(|range| held.contains(range)),
-        F::RangeRepeated,
-    );
     marks.set_if(!rust.targets.is_empty(), F::TargetAdded);
     let dropped = rust
         .targets
         .iter()
         .any(|(_, target)| target.starts_with(b"NOTHING"));
     marks.set_if(dropped, F::TargetDropped);
-    let wrong = rust.ranges.iter().any(|(start, end)| start > end);
-    marks.set_if(wrong, F::RangeWrong);
     let next_to = |unit: &Unit| {
         let (next, removed) = (unit.closing() + 1, &seen.walked.removed);
-        let is_new = |id: u64| !held.iter().any(|(s, e)| (*s..=*e).contains(&id));
+        let is_new = |id: u64| !has(&seen.before.ranges, id);
         let is_next = removed.iter().any(|(index, _)| *index == next);
         is_next && seen.call.id_of(next).is_some_and(is_new)
     };
@@ -127,11 +119,10 @@ fn removed(seen: &Seen, id: u64, marks: &mut Marks) {
 fn evaluated(seen: &Seen, index: usize, marks: &mut Marks) {
     for &(start, end) in &seen.before.ranges {
         match seen.call.id_of(index) {
-            Some(id) if start <= end => {
+            Some(id) => {
                 marks.set_if(id.checked_add(1) == Some(start), F::RangeBelow);
                 marks.set_if(end.checked_add(1) == Some(id), F::RangeAbove);
             }
-            Some(_) => {}
             None => {
                 let number = seen.call.rules[index].id;
                 marks.set_if((start..=end).contains(&number), F::RangeNoId);

@@ -3,7 +3,7 @@
 use beside::case::outcome;
 use case_format::{Answer, Mode};
 
-use super::{Feature as F, Marks, Seen};
+use super::{has, Feature as F, Marks, Seen};
 
 pub fn mark(seen: &Seen, marks: &mut Marks) {
     marks.set_below(F::Phase1, seen.call.phase as usize - 1);
@@ -38,14 +38,13 @@ fn held(seen: &Seen, marks: &mut Marks) {
     let is_same = before.phase == seen.call.phase;
     marks.set(if is_same { F::SamePhase } else { F::OtherPhase });
     marks.set_if(before.mode != entry.mode, F::ModeCarried);
-    let carried = &before.ranges[entry.ranges.len()..];
-    marks.set_if(!carried.is_empty(), F::RangesCarried);
+    marks.set_if(before.ranges != entry.ranges, F::RangesCarried);
     marks.set_if(before.targets > 0, F::TargetsCarried);
     marks.set_if(before.allowed && !entry.allowed, F::AllowedCarried);
     marks.set_if(before.stopped && !entry.stopped, F::StoppedCarried);
     let is_carried = |&(index, _): &(usize, bool)| {
         let id = seen.call.id_of(index);
-        id.is_some_and(|id| carried.iter().any(|(s, e)| (*s..=*e).contains(&id)))
+        id.is_some_and(|id| has(&before.ranges, id) && !has(&entry.ranges, id))
     };
     let removed = seen.walked.removed.iter().any(is_carried);
     marks.set_if(removed, F::RemovedByCarried);
@@ -63,7 +62,6 @@ fn sizes(seen: &Seen, marks: &mut Marks) {
     marks.set_if(call.actions.len() == 4_096, F::Actions4096);
     marks.set_if(call.markers.len() == 256, F::Markers256);
     marks.set_if(call.text.len() == 65_536, F::Text65536);
-    marks.set_if(seen.rust.ranges.len() == 256, F::Ranges256);
     let targets = seen.before.targets + seen.rust.targets.len();
     marks.set_if(targets == 64, F::Targets64);
 }

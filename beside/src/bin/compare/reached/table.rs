@@ -58,8 +58,21 @@ features! {
     Markers256 = "markers: 256",
     Text65536 = "text: 65,536 bytes",
     Ranges256 = "ranges: 256 held after the call",
+    Ranges256Merged = "ranges: 256 held after the call, more were added and have merged",
     Targets64 = "targets: 64 held after the call",
     Answer0 = "answer: 0",
+    Refused3Touch = "answer: 3, ranges held touch",
+    Refused3Overlap = "answer: 3, ranges held overlap",
+    Refused3Order = "answer: 3, ranges held are not sorted",
+    Refused3Backwards = "answer: 3, a range held starts above its end",
+    Refused3AfterLargest = "answer: 3, a range held stands after one that ends at 18446744073709551615",
+    Refused8Above = "answer: 8, more than 256 would be left after merging too",
+    Refused8Merged = "answer: 8, though no more than 256 would be left after merging",
+    Refused8Covered = "answer: 8, though all that is added is held already",
+    Refused8Full = "answer: 8, 256 ranges are held",
+    Refused9 = "answer: 9",
+    RefusedIdle = "answer: 3, 8 or 9 where there would be nothing to do",
+    RefusedLater = "answer: 8 or 9 after an earlier call",
     Answer10 = "answer: 10",
     ErrorFirst = "answer: 10 at the first rule",
     ErrorAfterUnit = "answer: 10 after a closed unit",
@@ -152,19 +165,38 @@ features! {
     Json = "control: processor JSON after the call",
     Xml = "control: processor XML after the call",
     RangesAdded = "control: ranges added",
-    RangeRepeated = "control: an added range is held already",
+    RangesFewer = "control: ranges added, and fewer are held than before",
+    RangesSame = "control: ranges added, and the same are held as before",
     TargetAdded = "control: targets added",
     TargetDropped = "control: a target whose variable is unknown",
     NameFolded = "control: a directive in other letters, supported",
     NameTrimmed = "control: a directive with blanks around it, supported",
     ValueTrimmed = "control: a value with blanks around it, supported",
     RemovesNext = "control: removes the next rule",
+    MergeNothingHeld = "merge: nothing is held, a range is added",
+    MergeNoneFirst = "merge: with none, before all that are held",
+    MergeNoneBetween = "merge: with none, between two that are held",
+    MergeNoneLast = "merge: with none, after all that are held",
+    MergeNotAround = "merge: 0 is added and the largest number held, or the other way round: with none",
+    MergeTouchesBelow = "merge: with one, touches it from below",
+    MergeTouchesAbove = "merge: with one, touches it from above",
+    MergeOverlapsBelow = "merge: with one, overlaps it from below",
+    MergeOverlapsAbove = "merge: with one, overlaps it from above",
+    MergeCovered = "merge: with one, which covers it already",
+    MergeCovers = "merge: with one, which it covers",
+    MergeTwo = "merge: bridges two",
+    MergeSeveral = "merge: bridges three or more",
+    MergeEntry = "merge: with one held before the first call",
+    MergeCarried = "merge: with one that earlier calls left",
+    MergeOwn = "merge: with one of the same call",
+    MergeAt0 = "merge: at 0",
+    MergeAtLargest = "merge: at 18446744073709551615",
+    MergeTouchesLargest = "merge: 18446744073709551615 touches the number below it",
     RangeStart = "range: a removed id is the start",
     RangeEnd = "range: a removed id is the end, the start another",
     RangeInside = "range: a removed id lies inside",
     RangeBelow = "range: an evaluated id is one below the start",
     RangeAbove = "range: an evaluated id is one above the end",
-    RangeWrong = "range: starts above its end",
     RangeAll = "range: removes 0",
     RangeLargest = "range: removes 18446744073709551615",
     RangeNoId = "range: a rule without id is evaluated though the id that it does not have lies inside",
@@ -239,6 +271,10 @@ const LARGE: [Feature; 5] = [
     Feature::Text65536,
 ];
 
+/// Lines of refused calls. The Rust has no results of those, so that no case is recorded with one.
+const REFUSED: std::ops::RangeInclusive<usize> =
+    Feature::Refused3Touch as usize..=Feature::RefusedLater as usize;
+
 /// How many calls reached each line.
 #[derive(Clone)]
 pub struct Table([u64; Feature::COUNT]);
@@ -274,10 +310,10 @@ impl Table {
         Self::texts(&missing.collect::<Vec<_>>())
     }
 
-    /// The lines that fewer reached than so many, without those that no small call can.
+    /// The lines that fewer reached than so many, without those that no small call or no recorded one can.
     pub fn short(&self, many: u64) -> Vec<usize> {
-        let is_short =
-            |at: &usize| self.0[*at] < many && !LARGE.iter().any(|it| *it as usize == *at);
+        let is_large = |at: &usize| LARGE.iter().any(|it| *it as usize == *at);
+        let is_short = |at: &usize| self.0[*at] < many && !is_large(at) && !REFUSED.contains(at);
         (0..Feature::COUNT).filter(is_short).collect()
     }
 

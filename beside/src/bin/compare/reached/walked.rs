@@ -62,7 +62,8 @@ impl Walked {
     ) -> Self {
         let mode = before.mode.unwrap_or(case.mode);
         let is_held = before.allowed || before.stopped;
-        if is_held || mode == Mode::Off || call.rules.is_empty() {
+        let is_refused = matches!(rust.answer, Answer::Refused(_));
+        if is_refused || is_held || mode == Mode::Off || call.rules.is_empty() {
             return Self {
                 is_idle: true,
                 ..Self::default()

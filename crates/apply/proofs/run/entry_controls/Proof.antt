@@ -1,7 +1,4 @@
 -- `apply::run::entry_controls` meets its contract.
-use mathlib.Core.Path.{subst}
-use Rattle.control.specs.ControlsStruct.{Became}
-use Rattle.control.proofs.Chained.{became-same}
 use Rattle.apply.proofs.run.UnitLaws.{entry-member, entry-none}
 use borrow.Author.Needs.{needs}
 use Rattle.apply.proofs.run.entry_controls.Statement.{statement}
@@ -16,10 +13,10 @@ rule-controls-requires c κs = search needs
 returns : tie.Need-returns
 returns c =
     let r = c .before .before .before .before .before in
-    subst (Became _ _) (entry-member _ _ _ _ _ _ _ (r .before .if1 .taken) (r .rule-at .ensures)) (c .rule-controls .ensures)
+    entry-member _ _ _ _ _ _ _ _ _ _ (r .before .if1 .taken) (r .rule-at .ensures) (c .rule-controls .ensures)
 
 returns-2 : tie.Need-returns-2
-returns-2 c = subst (Became _ _) (entry-none _ _ _ _ _ _ (c .if1 .left)) (became-same _)
+returns-2 c = entry-none _ _ _ _ _ _ _ (c .if1 .left)
 
 pub entry-controls-spec : {M : Type 1} → statement M
 entry-controls-spec =

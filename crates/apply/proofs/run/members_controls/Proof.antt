@@ -10,7 +10,7 @@ use Rattle.apply.proofs.run.members_controls.Tie as tie
 abbrev Inv-loop : tie.InvT-loop
 Inv-loop entries rules actions text codes phase starts₀ ends₀ phases₀ positions₀ n r₀ i₀ starts ends phases positions r i =
     Across (record { phase = phase; text = text; actions = actionList actions }) codes (ruleList rules) entries
-    (structOf r₀ starts₀ ends₀ phases₀ positions₀) (structOf r starts ends phases positions) i
+    (r₀ .added) (structOf r₀ starts₀ ends₀ phases₀ positions₀) (r .added) (structOf r starts ends phases positions) i
 
 abbrev μ-loop : tie.MeasureT-loop
 μ-loop entries rules actions text codes phase starts₀ ends₀ phases₀ positions₀ n r₀ i₀ starts ends phases positions r i = n - i
@@ -19,7 +19,7 @@ small : (c : tie.In-loop Inv-loop μ-loop) → c .before .loop .i + 1 < 2 ^ 64
 small c = omega (arith, c .loop-test .taken)
 
 loop-holds : tie.Need-loop-holds Inv-loop μ-loop
-loop-holds c = across-none _ _ _ _ _
+loop-holds c = across-none _ _ _ _ _ _
 
 mul-index : tie.Need-mul-index Inv-loop μ-loop
 mul-index c = omega arith
@@ -54,10 +54,10 @@ loop-less c = omega (arith, c .before .before .before .before .before .before .b
 loop-again : tie.Need-loop-again Inv-loop μ-loop
 loop-again c =
     let l = c .before .before .before .before .before .before .before .before .loop in
-    across-more _ _ _ _ _ _ (l .i) (l .inv) _ (c .before .before .before .before .before .before .before .loop-test .taken) (c .entry-controls .ensures)
+    across-more _ _ _ _ _ _ _ _ (l .i) (l .inv) _ _ (c .before .before .before .before .before .before .before .loop-test .taken) (c .entry-controls .ensures)
 
 returns : tie.Need-returns Inv-loop μ-loop
-returns c = let l = c .before .loop in across-end _ _ _ _ _ _ (l .i) (l .inv) (c .loop-test .left)
+returns c = let l = c .before .loop in across-end _ _ _ _ _ _ _ _ (l .i) (l .inv) (c .loop-test .left)
 
 pub members-controls-spec : {M : Type 1} → statement M
 members-controls-spec =

@@ -4,11 +4,11 @@ use Rattle.control.proofs.queries.Asking.{refuses, gives}
 use Rattle.control.proofs.queries.engine_mode.Statement.{statement}
 use Rattle.control.proofs.queries.engine_mode.Tie as tie
 
-is-beyond-requires : tie.Need-is-beyond-requires
-is-beyond-requires c κs = search needs
+is-bad-requires : tie.Need-is-bad-requires
+is-bad-requires c κs = search needs
 
 returns : tie.Need-returns
-returns c = refuses (c .before .before .args .c) _ (c .before .is-beyond .ensures) _ _ (c .if1 .taken)
+returns c = refuses (c .before .before .before .before .before .args .t1) _ (c .before .is-bad .ensures) _ _ (c .if1 .taken)
 
 mode-or-requires : tie.Need-mode-or-requires
 mode-or-requires c κs = search needs
@@ -17,7 +17,7 @@ returns-2 : tie.Need-returns-2
 unfolding controlsOf
 returns-2 c =
     let e = c .before .before in
-    gives (e .before .before .args .c) _ (e .before .is-beyond .ensures) _ _ _ (e .if1 .left) (c .mode-or .ensures)
+    gives (e .before .before .before .before .before .args .t1) _ (e .before .is-bad .ensures) _ _ _ (e .if1 .left) (c .mode-or .ensures)
 
 pub engine-mode-spec : {M : Type 1} → statement M
-engine-mode-spec = tie.close (tie.spec is-beyond-requires returns mode-or-requires returns-2)
+engine-mode-spec = tie.close (tie.spec is-bad-requires returns mode-or-requires returns-2)

@@ -5,16 +5,16 @@ use Rattle.control.proofs.queries.Asking.{refuses, gives}
 use Rattle.control.proofs.queries.target_count.Statement.{statement}
 use Rattle.control.proofs.queries.target_count.Tie as tie
 
-is-beyond-requires : tie.Need-is-beyond-requires
-is-beyond-requires c κs = search needs
+is-bad-requires : tie.Need-is-bad-requires
+is-bad-requires c κs = search needs
 
 returns : tie.Need-returns
-returns c = refuses (c .before .before .args .c) _ (c .before .is-beyond .ensures) _ _ (c .if1 .taken)
+returns c = refuses (c .before .before .before .before .before .args .t1) _ (c .before .is-bad .ensures) _ _ (c .if1 .taken)
 
 returns-2 : tie.Need-returns-2
 returns-2 c =
-    let s = c .before .before .args .c in
-    gives s _ (c .before .is-beyond .ensures) _ _ _ (c .if1 .left) (sym (targets-length s))
+    let s = c .before .before .before .before .before .args .t1 in
+    gives s _ (c .before .is-bad .ensures) _ _ _ (c .if1 .left) (sym (targets-length s))
 
 pub target-count-spec : {M : Type 1} → statement M
-target-count-spec = tie.close (tie.spec is-beyond-requires returns returns-2)
+target-count-spec = tie.close (tie.spec is-bad-requires returns returns-2)

@@ -1,6 +1,6 @@
 -- `report::verdicts::count_verdicts` meets its contract.
-use Prim.Native.Nat.{ℕ, _+_, _*_, _/_, _-_, _^_, _<_}
-use mathlib.Core.Path.{_≡_}
+use Prim.Native.Nat.{ℕ, _+_, _*_, _/_, _-_, _^_, _≤_, _<_}
+use mathlib.Core.Path.{_≡_, _∙_}
 use mathlib.Core.List.{List}
 use native.Mathlib.Omega.{arith}
 use denote.Ref.{now}
@@ -11,12 +11,14 @@ use borrow.Author.Needs.{needs}
 use Rattle.report.proofs.verdicts.count_verdicts.Statement.{statement}
 use Rattle.report.proofs.verdicts.count_verdicts.Tie as tie
 
+-- of the k entries before the next, those that are not others were missed
 abbrev Inv-loop : tie.InvT-loop
-Inv-loop entries unsupported n missed₀ matched₀ removed₀ errors₀ k₀ missed matched removed errors k =
-    Counted entries 0 missed k × Counted entries 1 matched k × Counted entries 2 removed k × Counted entries 3 errors k
+Inv-loop entries unsupported n others₀ matched₀ removed₀ errors₀ k₀ others matched removed errors k =
+    Counted entries 0 (k - others) k × Counted entries 1 matched k × Counted entries 2 removed k × Counted entries 3 errors k
+    × (others ≤ k) × (k ≤ length entries / 2)
 
 abbrev μ-loop : tie.MeasureT-loop
-μ-loop entries unsupported n missed₀ matched₀ removed₀ errors₀ k₀ missed matched removed errors k = length entries / 2 - k
+μ-loop entries unsupported n others₀ matched₀ removed₀ errors₀ k₀ others matched removed errors k = length entries / 2 - k
 
 -- the entries, that they are in memory, and the verdict that a turn looks at
 abbrev words : tie.At-loop Inv-loop μ-loop → List ℕ
@@ -29,7 +31,8 @@ abbrev verdict : tie.At-loop Inv-loop μ-loop → ℕ
 verdict c = getD (words c) (2 * c .loop .k + 1) 0
 
 loop-holds : tie.Need-loop-holds Inv-loop μ-loop
-loop-holds c = let w = now (c .before .args .entries) in (counted-none w 0, counted-none w 1, counted-none w 2, counted-none w 3)
+loop-holds c = let w = now (c .before .args .entries) in
+    (counted-none w 0, counted-none w 1, counted-none w 2, counted-none w 3, omega arith, omega arith)
 
 mul-verdict : tie.Need-mul-verdict Inv-loop μ-loop
 mul-verdict c = search needs
@@ -46,11 +49,6 @@ shared-slice-read-verdict c = search needs
 add-k : tie.Need-add-k Inv-loop μ-loop
 add-k c = search needs
 
-add-missed : tie.Need-add-missed Inv-loop μ-loop
-add-missed c =
-    let h = c .before .before .before in
-    counted-fits (words h) 0 (h .loop .missed) (h .loop .k) 1 (h .loop .inv .0) (omega arith) (small h)
-
 loop-less : tie.Need-loop-less Inv-loop μ-loop
 loop-less c = search needs
 
@@ -61,11 +59,16 @@ loop-again c =
     let l = h .loop in
     let inside = c .before .before .loop-test .taken in
     let none = c .if1 .taken in (
-      counted-hit w 0 (l .missed) (l .k) inside none (l .inv .0),
+      omega (arith, counted-hit w 0 (l .k - l .others) (l .k) inside none (l .inv .0)),
       counted-other w 1 (l .matched) (l .k) inside (λ e. omega (arith, none, e)) (l .inv .1),
       counted-other w 2 (l .removed) (l .k) inside (λ e. omega (arith, none, e)) (l .inv .2),
       counted-other w 3 (l .errors) (l .k) inside (λ e. omega (arith, none, e)) (l .inv .3),
+      omega arith,
+      omega arith,
     )
+
+add-others : tie.Need-add-others Inv-loop μ-loop
+add-others c = search needs
 
 one-if-requires : tie.Need-one-if-requires Inv-loop μ-loop
 one-if-requires c κs = tt
@@ -100,11 +103,16 @@ loop-again-2 c =
     let w = words h in
     let l = h .loop in
     let inside = c .before .before .before .before .before .loop-test .taken in (
-      counted-other w 0 (l .missed) (l .k) inside (c .before .before .before .if1 .left) (l .inv .0),
+      omega (arith, counted-other w 0 (l .k - l .others) (l .k) inside (c .before .before .before .if1 .left) (l .inv .0)),
       rw (c .before .before .one-if .ensures) (counted-more w 1 (l .matched) (l .k) inside (l .inv .1)),
       rw (c .before .one-if2 .ensures) (counted-more w 2 (l .removed) (l .k) inside (l .inv .2)),
       rw (c .one-if3 .ensures) (counted-more w 3 (l .errors) (l .k) inside (l .inv .3)),
+      omega arith,
+      omega arith,
     )
+
+sub-t18 : tie.Need-sub-t18 Inv-loop μ-loop
+sub-t18 c = search needs
 
 returns : tie.Need-returns Inv-loop μ-loop
 unfolding reportWith
@@ -113,8 +121,10 @@ returns c =
     let w = words h in
     let l = h .loop in
     let past = c .loop-test .left in
+    let missed = counted-all w 0 (l .k - l .others) (l .k) past (l .inv .0) in
+    let others : length w / 2 - l .others ≡ l .k - l .others = omega arith in
     λ i. record {
-      missed = counted-all w 0 (l .missed) (l .k) past (l .inv .0) i;
+      missed = (others ∙ missed) i;
       matched = counted-all w 1 (l .matched) (l .k) past (l .inv .1) i;
       removed = counted-all w 2 (l .removed) (l .k) past (l .inv .2) i;
       errors = counted-all w 3 (l .errors) (l .k) past (l .inv .3) i;
@@ -133,9 +143,9 @@ count-verdicts-spec =
     mul-verdict-2
     shared-slice-read-verdict
     add-k
-    add-missed
     loop-less
     loop-again
+    add-others
     one-if-requires
     add-matched
     one-if-requires-2
@@ -144,4 +154,5 @@ count-verdicts-spec =
     add-errors
     loop-less-2
     loop-again-2
+    sub-t18
     returns)

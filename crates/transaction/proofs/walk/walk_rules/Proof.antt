@@ -42,7 +42,7 @@ entryBy at starts ends phases positions = record {
 abbrev Inv-loop : tie.InvT-loop
 Inv-loop call rules actions markers text outcomes codes ids₀ entries₀ journal₀ starts₀ ends₀ phases₀ positions₀
     at₀ n ids entries journal starts ends phases positions at =
-    Sofar (givenOf call rules actions (markerList markers) text outcomes) (entryBy at₀ starts₀ ends₀ phases₀ positions₀) ids₀ entries₀ journal₀ ids entries journal (structOf (at .counts) starts ends phases positions) (at .state) (at .visits) (at .ids)
+    Sofar (givenOf call rules actions (markerList markers) text outcomes) (entryBy at₀ starts₀ ends₀ phases₀ positions₀) ids₀ entries₀ journal₀ ids entries journal (structOf (at .counts) starts ends phases positions) (at .counts .added) (at .state) (at .visits) (at .ids)
     (at .entries)
 
 abbrev μ-loop : tie.MeasureT-loop
@@ -122,6 +122,7 @@ turn-by c w found-is w-is = record {
   entries = head c .loop .entries;
   journal = head c .loop .journal;
   c = held-at (head c);
+  added = head c .loop .at .counts .added;
   s = head c .loop .at .state;
   visits = head c .loop .at .visits;
   listed = head c .loop .at .ids;
@@ -138,7 +139,7 @@ few : (c : tie.At-loop Inv-loop μ-loop) → held-at c .ranges ≤ 256
 few c =
     few-ranges (Q (c .before)) (T (c .before)) (now (entered (c .before) .args .codes)) (now (entered (c .before) .args .ids))
     (now (entered (c .before) .args .entries)) (now (entered (c .before) .args .journal)) (ready (c .before))
-    (c .loop .ids) (c .loop .entries) (c .loop .journal) (held-at c) (c .loop .at .state) (c .loop .at .visits) (c .loop .at .ids)
+    (c .loop .ids) (c .loop .entries) (c .loop .journal) (held-at c) (c .loop .at .counts .added) (c .loop .at .state) (c .loop .at .visits) (c .loop .at .ids)
     (c .loop .at .entries) (c .loop .inv)
 
 -- the turn, where its rule has been visited
@@ -146,9 +147,9 @@ abbrev turn : (c : tie.After-visit-next Inv-loop μ-loop) → Turning
 turn c =
     let h = head (turning c) in
     turn-by (turning c) (c .visit-next .result)
-    (verdict-found (Q (h .before)) (held-at h) (h .loop .at .state) (h .loop .at .visits) (few h) (c .visit-next .result)
+    (verdict-found (Q (h .before)) (held-at h) (h .loop .at .state) (h .loop .at .visits) (few h) (h .loop .inv .merged) (c .visit-next .result)
     (c .visit-next .ensures .0))
-    (visit-found (Q (h .before)) (held-at h) (h .loop .at .state) (h .loop .at .visits) (few h) (c .visit-next .result)
+    (visit-found (Q (h .before)) (held-at h) (h .loop .at .state) (h .loop .at .visits) (few h) (h .loop .inv .merged) (c .visit-next .result)
     (c .visit-next .ensures .0))
 
 -- the journal with its visit
@@ -161,7 +162,7 @@ journal-as-lent c =
     journal-same
     (Q (c .before)) (T (c .before)) (now (entered (c .before) .args .codes)) (now (entered (c .before) .args .ids))
     (now (entered (c .before) .args .entries)) (now (entered (c .before) .args .journal)) (ready (c .before))
-    (c .loop .ids) (c .loop .entries) (c .loop .journal) (held-at c) (c .loop .at .state) (c .loop .at .visits) (c .loop .at .ids)
+    (c .loop .ids) (c .loop .entries) (c .loop .journal) (held-at c) (c .loop .at .counts .added) (c .loop .at .state) (c .loop .at .visits) (c .loop .at .ids)
     (c .loop .at .entries) (c .loop .inv)
 
 ids-as-lent : (c : tie.At-loop Inv-loop μ-loop) → length (c .loop .ids) ≡ length (now (entered (c .before) .args .ids))
@@ -169,7 +170,7 @@ ids-as-lent c =
     ids-same
     (Q (c .before)) (T (c .before)) (now (entered (c .before) .args .codes)) (now (entered (c .before) .args .ids))
     (now (entered (c .before) .args .entries)) (now (entered (c .before) .args .journal)) (ready (c .before))
-    (c .loop .ids) (c .loop .entries) (c .loop .journal) (held-at c) (c .loop .at .state) (c .loop .at .visits) (c .loop .at .ids)
+    (c .loop .ids) (c .loop .entries) (c .loop .journal) (held-at c) (c .loop .at .counts .added) (c .loop .at .state) (c .loop .at .visits) (c .loop .at .ids)
     (c .loop .at .entries) (c .loop .inv)
 
 entries-as-lent : (c : tie.At-loop Inv-loop μ-loop) → length (c .loop .entries) ≡ length (now (entered (c .before) .args .entries))
@@ -177,7 +178,7 @@ entries-as-lent c =
     entries-same
     (Q (c .before)) (T (c .before)) (now (entered (c .before) .args .codes)) (now (entered (c .before) .args .ids))
     (now (entered (c .before) .args .entries)) (now (entered (c .before) .args .journal)) (ready (c .before))
-    (c .loop .ids) (c .loop .entries) (c .loop .journal) (held-at c) (c .loop .at .state) (c .loop .at .visits) (c .loop .at .ids)
+    (c .loop .ids) (c .loop .entries) (c .loop .journal) (held-at c) (c .loop .at .counts .added) (c .loop .at .state) (c .loop .at .visits) (c .loop .at .ids)
     (c .loop .at .entries) (c .loop .inv)
 
 start-requires : tie.Need-start-requires Inv-loop μ-loop
@@ -187,7 +188,7 @@ loop-holds : tie.Need-loop-holds Inv-loop μ-loop
 loop-holds c =
     let a = entered c .args in
     subst (λ (r : WalkState). Sofar (Q c) (T c) (now (a .ids)) (now (a .entries)) (now (a .journal)) (now (a .ids)) (now (a .entries))
-    (now (a .journal)) (T c .controls) (r .state) (r .visits) (T c .ids) (T c .entries)) (sym (c .start .ensures))
+    (now (a .journal)) (T c .controls) (r .counts .added) (r .state) (r .visits) (T c .ids) (T c .entries)) (sym (c .start .ensures))
     (sofar-none (Q c) (T c) (now (a .codes)) (now (a .ids)) (now (a .entries)) (now (a .journal)) (ready c))
 
 visit-next-requires : tie.Need-visit-next-requires Inv-loop μ-loop
@@ -195,7 +196,7 @@ visit-next-requires c κs =
     let h = c .before .before .before .before .before in
     let a = entered (h .before) .args in
     journal-ahead (Q (h .before)) (T (h .before)) (now (a .codes)) (now (a .ids)) (now (a .entries)) (now (a .journal))
-    (ready (h .before)) refl (h .loop .ids) (h .loop .entries) (h .loop .journal) (held-at h) (h .loop .at .state)
+    (ready (h .before)) refl (h .loop .ids) (h .loop .entries) (h .loop .journal) (held-at h) (h .loop .at .counts .added) (h .loop .at .state)
     (h .loop .at .visits) (h .loop .at .ids) (h .loop .at .entries) (h .loop .inv)
     (inside-rules (now (a .rules)) (h .loop .at .state .next) (c .before .before .before .if1 .taken))
 
@@ -259,7 +260,7 @@ finish-unit-requires c κs =
     let v = at-else x in
     let l = head (turning v) .loop in
     room-closed (turn v) (journal-with v) (v .visit-next .ensures .1) (closes x) (l .at .counts) (l .starts) (l .ends) (l .phases)
-    (l .positions) refl
+    (l .positions) refl refl
 
 -- what closing it left
 unit-closed : (c : tie.After-finish-unit Inv-loop μ-loop)
@@ -288,7 +289,7 @@ same-length-4 c = let k = c .before .before .before .before .before .before .bef
     let v = at-else x in
     let l = head (turning v) .loop in
     ids-closed (turn v) (journal-with v) (v .visit-next .ensures .1) (closes x) (l .at .counts) (l .starts) (l .ends) (l .phases)
-    (l .positions) refl _ _ _ _ _ _ _ (unit-closed k)
+    (l .positions) refl refl _ _ _ _ _ _ _ (unit-closed k)
 
 same-length-5 : tie.Need-same-length-5 Inv-loop μ-loop
 same-length-5 c = let k = c .before .before .before .before .before .before .before .before in
@@ -296,7 +297,7 @@ same-length-5 c = let k = c .before .before .before .before .before .before .bef
     let v = at-else x in
     let l = head (turning v) .loop in
     entries-closed (turn v) (journal-with v) (v .visit-next .ensures .1) (closes x) (l .at .counts) (l .starts) (l .ends) (l .phases)
-    (l .positions) refl _ _ _ _ _ _ _ (unit-closed k)
+    (l .positions) refl refl _ _ _ _ _ _ _ (unit-closed k)
 
 same-length-6 : tie.Need-same-length-6 Inv-loop μ-loop
 same-length-6 c =
@@ -312,7 +313,7 @@ returns-2 c =
     rw (c .ended2 .ensures)
     (walked (head (turning v) .before) _ _
     (walked-closed (turn v) (journal-with v) (v .visit-next .ensures .1) (closes x) (l .at .counts) (l .starts) (l .ends) (l .phases)
-    (l .positions) refl _ _ _ _ _ _ _ (unit-closed k) _ (c .before .before .left2 .given .1)))
+    (l .positions) refl refl _ _ _ _ _ _ _ (unit-closed k) _ (c .before .before .left2 .given .1)))
 
 loop-less-2 : tie.Need-loop-less-2 Inv-loop μ-loop
 loop-less-2 c =
@@ -321,7 +322,7 @@ loop-less-2 c =
     let v = at-else x in
     let l = head (turning v) .loop in
     fewer-left-closed (turn v) (journal-with v) (v .visit-next .ensures .1) (closes x) (l .at .counts) (l .starts) (l .ends) (l .phases)
-    (l .positions) refl _ _ _ _ _ _ _ (unit-closed k) _ (c .before .left .given .1)
+    (l .positions) refl refl _ _ _ _ _ _ _ (unit-closed k) _ (c .before .left .given .1)
     (length (now (entered (head (turning v) .before) .args .rules)) / 5) (turning v .if1 .taken)
 
 loop-again-2 : tie.Need-loop-again-2 Inv-loop μ-loop
@@ -331,7 +332,7 @@ loop-again-2 c =
     let v = at-else x in
     let l = head (turning v) .loop in
     sofar-closed (turn v) (journal-with v) (v .visit-next .ensures .1) (closes x) (l .at .counts) (l .starts) (l .ends) (l .phases)
-    (l .positions) refl _ _ _ _ _ _ _ (unit-closed k) _ (c .before .left .given .1)
+    (l .positions) refl refl _ _ _ _ _ _ _ (unit-closed k) _ (c .before .left .given .1)
 
 -- NO RULE IS LEFT
 
@@ -357,7 +358,7 @@ returns-3 c =
     rw (c .ended3 .ensures, c .before .end-at2 .ensures)
     (walked (h .before) _ _
     (sofar-end (Q (h .before)) (T (h .before)) (now (a .ids)) (now (a .entries)) (now (a .journal))
-    (h .loop .ids) (h .loop .entries) (h .loop .journal) (held-at h) (h .loop .at .state) (h .loop .at .visits) (h .loop .at .ids)
+    (h .loop .ids) (h .loop .entries) (h .loop .journal) (held-at h) (h .loop .at .counts .added) (h .loop .at .state) (h .loop .at .visits) (h .loop .at .ids)
     (h .loop .at .entries) (h .loop .inv)
     (past-rules (now (a .rules)) (h .loop .at .state .next) (c .before .before .if1 .left))))
 

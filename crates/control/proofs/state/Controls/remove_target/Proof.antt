@@ -15,18 +15,18 @@ phases-length c = sym (length-map (c .args .t1 .phases) _) ∙ c .good .0 .1 .1 
 positions-length : (c : tie.Start) → length (c .args .t1 .positions) ≡ 64
 positions-length c = sym (length-map (c .args .t1 .positions) _) ∙ c .good .0 .1 .1 .1 .1 .1 .1 .1 .0 .1 .0 .1
 
-is-beyond-requires : tie.Need-is-beyond-requires
-is-beyond-requires c κs = search needs
+is-bad-requires : tie.Need-is-bad-requires
+is-bad-requires c κs = search needs
 
 returns : tie.Need-returns
 returns c =
-    let s = c .before .before in
-    target-refused (s .args .t1) _ (c .before .is-beyond .ensures) (s .args .at) 3 (rw (c .if1 .taken)) (omega arith)
+    let s = c .before .before .before .before .before in
+    target-refused (s .args .t1) _ (c .before .is-bad .ensures) (s .args .at) 3 (rw (c .if1 .taken)) (omega arith)
 
 returns-2 : tie.Need-returns-2
 returns-2 c =
-    let s = c .before .before .before in
-    target-refused (s .args .t1) _ (c .before .before .is-beyond .ensures) (s .args .at) 9
+    let s = c .before .before .before .before .before .before in
+    target-refused (s .args .t1) _ (c .before .before .is-bad .ensures) (s .args .at) 9
     (rw (c .before .if1 .left, le-leb _ _ (c .if2 .taken))) (omega arith)
 
 add-after : tie.Need-add-after
@@ -46,15 +46,15 @@ element-write-self-2 c = search needs
 
 returns-3 : tie.Need-returns-3
 returns-3 c =
-    let s = c .before .before .before in
-    target-added (s .args .t1) _ (c .before .before .is-beyond .ensures) (s .args .at) (phases-length s) (positions-length s)
+    let s = c .before .before .before .before .before .before in
+    target-added (s .args .t1) _ (c .before .before .is-bad .ensures) (s .args .at) (phases-length s) (positions-length s)
     (c .before .if1 .left) (c .if2 .left)
 
 pub remove-target-spec : {M : Type 1} → statement M
 remove-target-spec =
     tie.close
     (tie.spec
-    is-beyond-requires
+    is-bad-requires
     returns
     returns-2
     add-after

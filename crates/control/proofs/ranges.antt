@@ -1,0 +1,4 @@
+pub mod RowLaws
+pub mod HalvingLaws
+pub mod MergingLaws
+pub mod FormLaws
