@@ -2,8 +2,8 @@
 
 use case_format::CallResult;
 
-/// The names of the lines in which two sides differ; of the visits those of evaluated rules count, because the Rust has no
-/// others. Nor does it count the rules removed at the end: whoever compares does that by the ranges that it then holds.
+/// The names of the result's lines in which two sides differ; of the visits those of evaluated rules count, because the Rust
+/// has no others.
 pub fn differing(one: &CallResult, other: &CallResult) -> Vec<&'static str> {
     let same = [
         ("answer", one.answer == other.answer),
@@ -18,7 +18,6 @@ pub fn differing(one: &CallResult, other: &CallResult) -> Vec<&'static str> {
         ("allowed", one.allowed == other.allowed),
         ("intervention", one.intervention == other.intervention),
         ("unsupported", one.unsupported == other.unsupported),
-        ("removed", one.removed == other.removed),
     ];
     let differs = same.iter().filter(|(_, same)| !same);
     differs.map(|(name, _)| *name).collect()
@@ -28,8 +27,7 @@ pub fn differing(one: &CallResult, other: &CallResult) -> Vec<&'static str> {
 mod tests {
     use super::*;
     use case_format::{
-        Answer, BodyProcessor, Intervention, Mode, Removed, Stop, Unsupported, UnsupportedReason,
-        Verdict,
+        Answer, BodyProcessor, Intervention, Mode, Stop, Unsupported, UnsupportedReason, Verdict,
     };
 
     const PAIR: Unsupported = Unsupported {
@@ -37,17 +35,10 @@ mod tests {
         reason: UnsupportedReason::ModeValue,
     };
 
-    fn side() -> CallResult {
-        CallResult {
-            removed: Some(Removed::default()),
-            ..CallResult::empty(1)
-        }
-    }
-
     fn changed(change: impl Fn(&mut CallResult)) -> Vec<&'static str> {
-        let mut other = side();
+        let mut other = CallResult::empty(1);
         change(&mut other);
-        differing(&side(), &other)
+        differing(&CallResult::empty(1), &other)
     }
 
     #[test]
@@ -70,11 +61,6 @@ mod tests {
         assert_eq!(changed(|it| it.allowed = true), ["allowed"]);
         assert_eq!(changed(|it| it.intervention = Stop::Held), ["intervention"]);
         assert_eq!(changed(|it| it.unsupported = Some(PAIR)), ["unsupported"]);
-        for (count, first) in [(1, None), (0, Some(0))] {
-            let removed = Some(Removed { count, first });
-            assert_eq!(changed(|it| it.removed = removed), ["removed"]);
-        }
-        assert_eq!(changed(|it| it.removed = None), ["removed"]);
     }
 
     /// So that a name always has its line, and a line its name.
@@ -95,10 +81,9 @@ mod tests {
                 allowed: true,
                 intervention: Stop::Held,
                 unsupported: Some(PAIR),
-                removed: None,
             }
         };
-        let lines = side().lines();
+        let lines = CallResult::empty(1).lines();
         let first = |line: &String| line.split(' ').next().map(str::to_string);
         let words: Vec<String> = lines.iter().filter_map(first).collect();
         assert_eq!(changed(whole), words[1..]);

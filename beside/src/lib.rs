@@ -5,5 +5,4 @@ pub mod found;
 pub mod model;
 pub mod ours;
 pub mod random;
-pub mod removed;
 pub mod values;

@@ -4,12 +4,10 @@
 mod directive;
 mod ranges;
 mod reading;
-mod removed;
 mod unit;
 
 use case_format::{
-    Answer, CallResult, DirectiveAnswer as Directive, Entry, Mode, Removed, Stop, Unsupported,
-    Verdict,
+    Answer, CallResult, DirectiveAnswer as Directive, Entry, Mode, Stop, Unsupported, Verdict,
 };
 
 use crate::case::{outcome, Call, Case};
@@ -20,7 +18,6 @@ pub use unit::is_ctl;
 
 use ranges::{merged, with_smallest_ends};
 use reading::Reading as R;
-use removed::AtEntry;
 
 /// "more than 256 ranges, more than 64 targets"
 const MOST_RANGES: usize = 256;
@@ -54,15 +51,9 @@ impl Model {
         let mut found = match self.refusal(call) {
             Some(number) => CallResult {
                 answer: Answer::Refused(number),
-                removed: Some(Removed::default()),
                 ..CallResult::empty(call.phase)
             },
-            None => {
-                let at_entry = AtEntry::of(self, call);
-                let found = self.accepted(call);
-                let removed = Some(self.removed_at_end(call, &found, &at_entry));
-                CallResult { removed, ..found }
-            }
+            None => self.accepted(call),
         };
         if was_stopped {
             found.intervention = Stop::Held;
@@ -131,12 +122,12 @@ impl Model {
     }
 
     /// "Both ends of a range are removed", "A rule without an id is never removed".
-    fn removes(&self, ranges: &[(u64, u64)], id: Option<u64>) -> bool {
+    fn is_removed(&self, id: Option<u64>) -> bool {
         let short = self.reads(R::RangeShort);
         let covers = |id: u64, &(start, end): &(u64, u64)| {
             start <= id && (id < end || id == end && (start == end || !short))
         };
-        id.is_some_and(|id| ranges.iter().any(|range| covers(id, range)))
+        id.is_some_and(|id| self.held.ranges.iter().any(|range| covers(id, range)))
     }
 }
 
@@ -176,8 +167,7 @@ impl Walk<'_> {
 
     /// Visits a rule and gives the next index; none where the visit is the last.
     fn visit(&mut self, index: usize) -> Option<usize> {
-        let ranges = &self.model.held.ranges;
-        if self.model.removes(ranges, self.call.id_of(index)) {
+        if self.model.is_removed(self.call.id_of(index)) {
             self.note(index, Verdict::Removed);
             return Some(self.removed(index));
         }

@@ -3,7 +3,6 @@
 mod read;
 
 use crate::case::{Call, Case};
-use crate::removed;
 use case_format::{CallResult, Mode};
 use tivembo::raw::{run_phase, words, Lent, Lists};
 use tivembo::{CallSettings, HostAnswer, HostIntervention, HostTransaction, Place, Report};
@@ -77,15 +76,10 @@ impl Ours {
         if unsupported.is_none() {
             faults.push("an unsupported directive without a reason");
         }
-        let removed = removed::from_numbers(answer.removed.count, answer.removed.first);
-        if removed.is_none() {
-            faults.push("a first removed rule where none is counted");
-        }
         let mut found = self.found(call, &before);
         found.answer = read::answer(&answer);
         found.visits = self.visits(visits).filter_map(read::visit).collect();
         found.unsupported = unsupported.flatten();
-        found.removed = Some(removed.unwrap_or_default());
         (found, faults)
     }
 

@@ -39,5 +39,5 @@ pub use domain::{Anything, Domain};
 pub use line::Reason;
 pub use print::Place;
 pub use read::{ReadError, Reader};
-pub use result::{Answer, CallResult, CaseResult, Intervention, Removed, Stop, Unsupported};
+pub use result::{Answer, CallResult, CaseResult, Intervention, Stop, Unsupported};
 pub use words::{BodyProcessor, Mode, Outcome, Verdict};

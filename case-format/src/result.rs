@@ -44,9 +44,6 @@ pub struct CallResult {
     pub intervention: Stop,
     /// The first unsupported directive of the units that this call closed. None after a refusal.
     pub unsupported: Option<Unsupported>,
-    /// The rules that are removed by the ranges held after the call; after a refusal 0 and none. `None` where a program does
-    /// not tell it, since the Rust has no such count: its results are without this line.
-    pub removed: Option<Removed>,
 }
 
 /// How a call ended.
@@ -78,15 +75,6 @@ pub struct Unsupported {
     pub rule: u64,
     /// Why it is unsupported.
     pub reason: UnsupportedReason,
-}
-
-/// How many rules of a phase are removed at its end. It prints as the count and the first index.
-#[derive(Debug, Clone, Copy, Default, PartialEq, Eq, Hash)]
-pub struct Removed {
-    /// How many rules are removed.
-    pub count: u64,
-    /// The index of the first of them.
-    pub first: Option<u64>,
 }
 
 /// An intervention with its texts.
@@ -140,8 +128,7 @@ impl fmt::Display for CallResult {
 }
 
 impl CallResult {
-    /// What is found after a call of this phase that did nothing, on a transaction that holds nothing. A count of removed rules
-    /// is not told.
+    /// What is found after a call of this phase that did nothing, on a transaction that holds nothing.
     pub fn empty(phase: u64) -> Self {
         Self {
             phase,
@@ -157,7 +144,6 @@ impl CallResult {
             allowed: false,
             intervention: Stop::No,
             unsupported: None,
-            removed: None,
         }
     }
 
@@ -167,8 +153,7 @@ impl CallResult {
         self.visits.iter().filter(is_evaluated).copied()
     }
 
-    /// The lines of this result, every line present but for `removed` where it is not told. Those of two results stand in the
-    /// same order.
+    /// The lines of this result, every line present. Those of two results stand in the same order.
     ///
     /// ```
     /// use case_format::{CallResult, Verdict};
@@ -177,7 +162,7 @@ impl CallResult {
     /// assert_eq!(result.lines()[..4], ["call 2", "answer 0", "visits 0:matched 1:removed", "ids"]);
     /// ```
     pub fn lines(&self) -> Vec<String> {
-        let mut lines = vec![
+        vec![
             format!("call {}", self.phase),
             format!("answer {}", self.answer),
             list("visits", &self.visits, visit),
@@ -191,9 +176,7 @@ impl CallResult {
             format!("allowed {}", yes_no(self.allowed)),
             format!("intervention {}", self.intervention),
             format!("unsupported {}", or_dash(self.unsupported)),
-        ];
-        lines.extend(self.removed.map(|removed| format!("removed {removed}")));
-        lines
+        ]
     }
 }
 
@@ -220,12 +203,6 @@ impl fmt::Display for Stop {
 impl fmt::Display for Unsupported {
     fn fmt(&self, f: &mut fmt::Formatter<'_>) -> fmt::Result {
         write!(f, "{} {}", self.rule, self.reason)
-    }
-}
-
-impl fmt::Display for Removed {
-    fn fmt(&self, f: &mut fmt::Formatter<'_>) -> fmt::Result {
-        write!(f, "{} {}", self.count, or_dash(self.first))
     }
 }
 

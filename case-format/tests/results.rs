@@ -1,8 +1,8 @@
 //! Results as the format prints them: what stands here is written from its page.
 
 use case_format::{
-    Answer, BodyProcessor, CallResult, CaseResult, DirectiveAnswer, Intervention, Mode, Removed,
-    Stop, Unsupported, UnsupportedReason, Verdict,
+    Answer, BodyProcessor, CallResult, CaseResult, DirectiveAnswer, Intervention, Mode, Stop,
+    Unsupported, UnsupportedReason, Verdict,
 };
 
 /// The page's own example, as far as one call can give it.
@@ -38,22 +38,14 @@ fn example() -> CallResult {
             rule: 3,
             reason: UnsupportedReason::Unrecognised,
         }),
-        removed: Some(Removed {
-            count: 2,
-            first: Some(5),
-        }),
     }
 }
 
 #[test]
 fn every_line() {
-    let empty = CallResult {
-        removed: Some(Removed::default()),
-        ..CallResult::empty(2)
-    };
     let result = CaseResult {
         name: "C1".to_string(),
-        calls: vec![example(), empty],
+        calls: vec![example(), CallResult::empty(2)],
     };
     let expected = r#"case C1
 call 1
@@ -69,7 +61,6 @@ targets "942100";"ARGS:token"
 allowed yes
 intervention status=403 drop=no url=- log="x" ids=43,41 phase=1 id=41 msg="x" logdata=- rev=- ver=- severity=- maturity=- accuracy=-
 unsupported 3 7
-removed 2 5
 call 2
 answer 0
 visits
@@ -83,26 +74,8 @@ targets
 allowed no
 intervention -
 unsupported -
-removed 0 -
 end"#;
     assert_eq!(result.to_string(), expected);
-}
-
-/// A first index of 0 is not none. Where the count is not told, the line is not there, and every other line is.
-#[test]
-fn removed_rules() {
-    let mut result = example();
-    let mut last = |removed| {
-        result.removed = removed;
-        let lines = result.lines();
-        (lines.len(), lines.last().cloned().expect("there are lines"))
-    };
-    let (count, first) = (1, Some(0));
-    let told = Some(Removed { count, first });
-    assert_eq!(last(told), (14, "removed 1 0".to_string()));
-    let none = Some(Removed::default());
-    assert_eq!(last(none), (14, "removed 0 -".to_string()));
-    assert_eq!(last(None), (13, "unsupported 3 7".to_string()));
 }
 
 #[test]

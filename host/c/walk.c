@@ -1,5 +1,5 @@
-/* Walks 01's cases C2, C8 and C10 through the library, as a gateway in C does, and prints what they give. Then a rule that removes
-   itself, a chain whose second rule has a directive that is passed over, and directives by themselves. Last, the controls by value: a range is added and two ids are
+/* Walks 01's cases C2 and C8 through the library, as a gateway in C does, and prints what they give. Then a chain whose second rule has
+   a directive that is passed over, and directives by themselves. Last, the controls by value: a range is added and two ids are
    asked for, a second range touches the first and is merged, and one that is held apart from it is refused. host/c/test compares what is printed with walk.expected. */
 #include <inttypes.h>
 #include <stdio.h>
@@ -10,7 +10,7 @@
 /* 01: "2 matched with one", a variable. */
 #define MATCHED_WITH_A_VARIABLE 2
 
-#define MOST_RULES 4
+#define MOST_RULES 2
 #define COUNT(list) (sizeof(list) / sizeof((list)[0]))
 
 /* The rules of a phase. A list is never null, so one without an entry is some list and the length 0. */
@@ -32,9 +32,7 @@ typedef struct Lists {
     TivemboJournalEntry journal[MOST_RULES];
 } Lists;
 
-static const uint8_t OUTCOMES[MOST_RULES] = {
-    MATCHED_WITH_A_VARIABLE, MATCHED_WITH_A_VARIABLE, MATCHED_WITH_A_VARIABLE, MATCHED_WITH_A_VARIABLE,
-};
+static const uint8_t OUTCOMES[MOST_RULES] = {MATCHED_WITH_A_VARIABLE, MATCHED_WITH_A_VARIABLE};
 static const TivemboMarker A_AT_1[] = {{.name = {.start = 0, .len = 1}, .position = 1}};
 static const uint8_t TEXT[] = {'A'};
 
@@ -94,15 +92,6 @@ static void print_unsupported(TivemboUnsupportedAt first) {
     }
 }
 
-/* The rules that are removed at the end. Without one, the index says nothing. */
-static void print_removed(TivemboRemovedRules removed) {
-    if (removed.count == 0) {
-        printf("removed none\n");
-    } else {
-        printf("removed %" PRIu64 " first %" PRIu64 "\n", removed.count, removed.first);
-    }
-}
-
 static void walk(const char *name, const Rules *given) {
     static const char *const verdicts[] = {"missed", "matched", "removed", "error"};
     TivemboHostTransaction transaction = {0};
@@ -124,7 +113,6 @@ static void walk(const char *name, const Rules *given) {
     printf("\n");
     print_intervention(&transaction.intervention);
     print_unsupported(answer.report.unsupported);
-    print_removed(answer.removed);
 }
 
 /* 10 deny. */
@@ -153,38 +141,6 @@ static void c8(void) {
     TivemboHostMarker found =
         tivembo_marker_position(A_AT_1, COUNT(A_AT_1), COUNT(rules), TEXT, COUNT(TEXT), TEXT, COUNT(TEXT));
     printf("marker A answer %" PRIu64 " present %" PRIu64 " position %" PRIu64 "\n", found.answer, found.present, found.position);
-}
-
-/* 40 removes 42; 41 link deny; 42; 43. */
-static void c10(void) {
-    static const uint8_t text[] = {'r', 'u', 'l', 'e', 'R', 'e', 'm', 'o', 'v', 'e', 'B', 'y', 'I', 'd', '4', '2'};
-    static const TivemboRule rules[] = {
-        {.present = 1, .id = 40, .first = 0, .count = 2},
-        {.present = 1, .id = 41, .link = 1, .first = 2, .count = 2},
-        {.present = 1, .id = 42, .first = 4, .count = 1},
-        {.present = 1, .id = 43, .first = 5, .count = 1},
-    };
-    static const TivemboAction actions[] = {
-        {.kind = TIVEMBO_KIND_ID, .number = 40},
-        {.kind = TIVEMBO_KIND_CTL, .text = {.start = 0, .len = 14}, .value = {.start = 14, .len = 2}},
-        {.kind = TIVEMBO_KIND_ID, .number = 41},
-        {.kind = TIVEMBO_KIND_DENY},
-        {.kind = TIVEMBO_KIND_ID, .number = 42},
-        {.kind = TIVEMBO_KIND_ID, .number = 43},
-    };
-    const Rules given = {rules, COUNT(rules), actions, COUNT(actions), A_AT_1, 0, text, COUNT(text)};
-    walk("C10", &given);
-}
-
-/* 5 with ctl:ruleRemoveById=5. It runs, and is removed then: so it counts, and its index is 0. */
-static void removes_itself(void) {
-    static const uint8_t text[] = {'r', 'u', 'l', 'e', 'R', 'e', 'm', 'o', 'v', 'e', 'B', 'y', 'I', 'd', '5'};
-    static const TivemboRule rules[] = {{.present = 1, .id = 5, .first = 0, .count = 1}};
-    static const TivemboAction actions[] = {
-        {.kind = TIVEMBO_KIND_CTL, .text = {.start = 0, .len = 14}, .value = {.start = 14, .len = 1}},
-    };
-    const Rules given = {rules, COUNT(rules), actions, COUNT(actions), A_AT_1, 0, text, COUNT(text)};
-    walk("removes itself", &given);
 }
 
 /* 1 link; 2 with ctl:foo=1. The index is that of the rule that has the directive. */
@@ -255,8 +211,6 @@ static void controls(void) {
 int main(void) {
     c2();
     c8();
-    c10();
-    removes_itself();
     passed_over();
     directives();
     controls();

@@ -348,18 +348,8 @@ typedef struct TivemboReport {
 } TivemboReport;
 TIVEMBO_ASSERT(sizeof(TivemboReport) == 48);
 
-/* How many of a phase's rules are removed by the ranges held at its end, and the index of the first of them. */
-typedef struct TivemboRemovedRules {
-    /* How many rules are removed. */
-    uint64_t count;
-    /* The index of the first of them; 0 where there is none. */
-    uint64_t first;
-} TivemboRemovedRules;
-TIVEMBO_ASSERT(sizeof(TivemboRemovedRules) == 16);
-
 /* What a phase call answers, the same from the walk to a host: 0, 10, or the number of a refusal; the index of the
-   rule that had the error, with 10; how many entries the journal holds; what is told besides; and which rules are
-   removed at the end. */
+   rule that had the error, with 10; how many entries the journal holds; and what is told besides. */
 typedef struct TivemboAnswer {
     /* 0, 10 or a refusal's number. */
     uint64_t answer;
@@ -369,10 +359,8 @@ typedef struct TivemboAnswer {
     uint64_t visits;
     /* What is told besides. */
     TivemboReport report;
-    /* How many rules are removed by the ranges held at the end, and the first of them; none after a refusal. */
-    TivemboRemovedRules removed;
 } TivemboAnswer;
-TIVEMBO_ASSERT(sizeof(TivemboAnswer) == 88);
+TIVEMBO_ASSERT(sizeof(TivemboAnswer) == 72);
 
 /* The answer to a question: 0 and the number of a value, or the number of a refusal and 0. */
 typedef struct TivemboHostQueryAnswer {

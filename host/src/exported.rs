@@ -8,7 +8,7 @@
 use crate::records::{
     Action, Answer, CallSettings, DataEntry, HostChangeAnswer, HostControls, HostIntervention,
     HostMarker, HostMetadata, HostNumber, HostPlace, HostQueryAnswer, HostTarget, HostTransaction,
-    JournalEntry, Marker, Part, ReadRecord, RemovedRules, Report, Rule, UnsupportedAt,
+    JournalEntry, Marker, Part, ReadRecord, Report, Rule, UnsupportedAt,
 };
 use crate::words::Words;
 
@@ -208,7 +208,6 @@ unsafe impl Words for HostTransaction {}
 unsafe impl Words for CallSettings {}
 unsafe impl Words for UnsupportedAt {}
 unsafe impl Words for Report {}
-unsafe impl Words for RemovedRules {}
 unsafe impl Words for Answer {}
 unsafe impl Words for HostQueryAnswer {}
 unsafe impl Words for HostTarget {}

@@ -79,9 +79,6 @@
 //! comes also where they would merge. Only a host that makes records itself can hold ranges in another form. Its calls are
 //! refused ([`Refusal::Miscounted`]), and [`Controls::range_fault`] says why; [`Transaction::remove_range`] adds ranges in any order.
 //!
-//! [`Phase::removed`] says how many rules of the phase are removed by the ranges held at its end, and which is the first, so that
-//! an operator sees what a site has switched off.
-//!
 //! # What is proved, and what is not
 //!
 //! Behind every call stands a function of libhost.a that is proved to do what the definitions say, whatever it is lent: see
@@ -130,12 +127,12 @@ pub use controls::Controls;
 pub use directive::{read_directive, Directive, Target};
 pub use intervention::{Intervention, Metadata};
 pub use limits::{Broken, Limit, Where};
-pub use phase::{Answer, Phase, Removed};
+pub use phase::{Answer, Phase};
 pub use ranges::RangeFault;
 pub use records::{
     Action, Answer as HostAnswer, CallSettings, DataEntry, HostChangeAnswer, HostControls,
     HostIntervention, HostMarker, HostMetadata, HostNumber, HostPlace, HostQueryAnswer, HostTarget,
-    HostTransaction, JournalEntry, Marker, Part, RemovedRules, Report, Rule, UnsupportedAt,
+    HostTransaction, JournalEntry, Marker, Part, Report, Rule, UnsupportedAt,
 };
 pub use refusal::Refusal;
 pub use ruleset::{Builder, Records, RuleSet};

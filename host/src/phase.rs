@@ -1,9 +1,7 @@
 //! What a phase call gives.
 
 use crate::intervention::Intervention;
-use crate::records::{
-    Answer as HostAnswer, DataEntry, HostTransaction, JournalEntry, RemovedRules, Report,
-};
+use crate::records::{Answer as HostAnswer, DataEntry, HostTransaction, JournalEntry, Report};
 use crate::transaction::Transaction;
 use crate::unsupported::{UnsupportedDirective, UnsupportedReason};
 use crate::values::{Data, Place, Verdict};
@@ -16,24 +14,6 @@ pub enum Answer {
     /// 10: the visited rule with this index was not removed and had the outcome [`Error`](crate::Outcome::Error). All
     /// units that were closed before it stand.
     RuleError(u64),
-}
-
-/// How many rules of a phase are removed by the ranges held at its end, and the first of them.
-#[derive(Debug, Clone, Copy, Default, PartialEq, Eq, Hash)]
-pub struct Removed {
-    /// How many rules are removed.
-    pub count: usize,
-    /// The index of the first of them; none where none is removed.
-    pub first: Option<usize>,
-}
-
-impl From<RemovedRules> for Removed {
-    fn from(record: RemovedRules) -> Self {
-        Self {
-            count: record.count as usize,
-            first: (record.count != 0).then_some(record.first as usize),
-        }
-    }
 }
 
 /// What a transaction counted before a call.
@@ -150,32 +130,6 @@ impl<'t> Phase<'t> {
                 reason: reason.expect("the contract has no other reason"),
             }
         })
-    }
-
-    /// How many rules of the phase are removed by the ranges held at its end, and the first of them.
-    ///
-    /// This is a count of rules, not of visits: a rule that ran before its id was removed counts, and so does one that was
-    /// passed. A rule without an id never does. A call that has nothing to do counts by the ranges that it finds. How many
-    /// visits found their rule removed is [`report`](Self::report)'s. A call that is refused gives no `Phase`; in numbers
-    /// it answers 0 and none.
-    ///
-    /// ```
-    /// use tivembo::{Act, Mode, Outcome, Removed, RuleSet, Transaction};
-    ///
-    /// let mut builder = RuleSet::builder();
-    /// builder.rule(Some(40), false, &[Act::Id(40)]).rule(Some(41), false, &[Act::Id(41)]);
-    /// builder.rule(Some(42), false, &[Act::Id(42), Act::Ctl(b"ruleRemoveById", b"41,43")]);
-    /// builder.rule(Some(43), false, &[Act::Id(43)]);
-    /// let rules = builder.build()?;
-    /// let mut transaction = Transaction::new();
-    /// let phase = transaction.run_phase(&rules, 2, Mode::On, 403, &[Outcome::Matched; 4])?;
-    /// assert_eq!(phase.ids(), [40, 41, 42]); // 41 ran, and was removed then
-    /// assert_eq!(phase.removed(), Removed { count: 2, first: Some(1) });
-    /// assert_eq!(phase.report().removed, 1); // the visit of 43
-    /// # Ok::<(), Box<dyn std::error::Error>>(())
-    /// ```
-    pub fn removed(&self) -> Removed {
-        self.answer.removed.into()
     }
 
     /// The matched ids that this call added.

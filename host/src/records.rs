@@ -262,19 +262,8 @@ pub struct Report {
     pub unsupported: UnsupportedAt,
 }
 
-/// How many of a phase's rules are removed by the ranges held at its end, and the index of the first of them.
-#[repr(C)]
-#[derive(Debug, Clone, Copy, Default, PartialEq, Eq, Hash)]
-pub struct RemovedRules {
-    /// How many rules are removed.
-    pub count: u64,
-    /// The index of the first of them; 0 where there is none.
-    pub first: u64,
-}
-
 /// What a phase call answers, the same from the walk to a host: 0, 10, or the number of a refusal; the index of the
-/// rule that had the error, with 10; how many entries the journal holds; what is told besides; and which rules are
-/// removed at the end.
+/// rule that had the error, with 10; how many entries the journal holds; and what is told besides.
 #[repr(C)]
 #[derive(Debug, Clone, Copy, Default, PartialEq, Eq, Hash)]
 pub struct Answer {
@@ -286,8 +275,6 @@ pub struct Answer {
     pub visits: u64,
     /// What is told besides.
     pub report: Report,
-    /// How many rules are removed by the ranges held at the end, and the first of them; none after a refusal.
-    pub removed: RemovedRules,
 }
 
 /// The answer to a question: 0 and the number of a value, or the number of a refusal and 0.

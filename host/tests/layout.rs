@@ -101,13 +101,8 @@ fn report() {
 }
 
 #[test]
-fn removed_rules() {
-    layout!(RemovedRules, 16, 8, count 0, first 8);
-}
-
-#[test]
 fn answer() {
-    layout!(Answer, 88, 8, answer 0, error 8, visits 16, report 24, removed 72);
+    layout!(Answer, 72, 8, answer 0, error 8, visits 16, report 24);
 }
 
 #[test]

@@ -5,8 +5,8 @@
 use tivembo::raw::{self, Lent, Lists};
 use tivembo::{
     Act, Action, CallSettings, DataEntry, HostAnswer, HostControls, HostIntervention, HostMetadata,
-    HostNumber, HostPlace, HostTransaction, JournalEntry, Marker, Part, RemovedRules, Report, Rule,
-    RuleSet, UnsupportedAt, MOST_RANGES, MOST_TARGETS,
+    HostNumber, HostPlace, HostTransaction, JournalEntry, Marker, Part, Report, Rule, RuleSet,
+    UnsupportedAt, MOST_RANGES, MOST_TARGETS,
 };
 
 /// Controls in which every number of the arrays differs.
@@ -270,18 +270,13 @@ fn the_flags_of_a_transaction_are_read() {
 }
 
 /// The rules of the phase below: six that miss, two that are removed, three that match, of which the first has a directive
-/// that is passed over, and one in error. That first one also removes its own id, which the last of those that miss has too: so
-/// four rules are removed at the end, from that one on, and all numbers of the answer differ.
+/// that is passed over, and one in error. So all numbers of its answer differ.
 fn twelve_rules() -> RuleSet {
     let mut rules = RuleSet::builder();
     for at in 0..12 {
-        let id = match at {
-            6 | 7 => Some(5),
-            5 | 8 => Some(6),
-            _ => None,
-        };
-        let ctl = [Act::Ctl(b"foo", b"1"), Act::Ctl(b"ruleRemoveById", b"6")];
-        rules.rule(id, false, if at == 8 { &ctl } else { &[] });
+        let removed = (6..8).contains(&at).then_some(5);
+        let ctl = [Act::Ctl(b"foo", b"1")];
+        rules.rule(removed, false, if at == 8 { &ctl } else { &[] });
     }
     rules.build().expect("within the limits")
 }
@@ -314,7 +309,6 @@ fn every_number_of_an_answer() {
                 reason: 7,
             },
         },
-        removed: RemovedRules { count: 4, first: 5 },
     };
     assert_eq!(answer, expected);
     let verdicts = [0, 0, 0, 0, 0, 0, 2, 2, 1, 1, 1, 3];

@@ -126,7 +126,6 @@ impl Run {
             allowed: self.transaction.allowed(),
             intervention: self.stop(held),
             unsupported: None,
-            removed: None,
         }
     }
 

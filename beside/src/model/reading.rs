@@ -1,6 +1,6 @@
 //! Wrong readings of the papers that can be planted.
 
-/// A wrong reading. The first six are 01's "Readings that tempt", the last ten are of 02.
+/// A wrong reading. The first six are 01's "Readings that tempt", the last six are of 02.
 #[derive(Debug, Clone, Copy, PartialEq, Eq)]
 pub enum Reading {
     RangeShort,
@@ -21,14 +21,10 @@ pub enum Reading {
     SmallerEnd,
     EightAfterMerging,
     ThreeLetsTouchingIn,
-    RemovedCountsVisits,
-    RemovedAtEntry,
-    IdleCountsNone,
-    FirstOfWord,
 }
 
 /// All of them, with their names and what they say.
-pub const READINGS: [(&str, Reading, &str); 22] = [
+pub const READINGS: [(&str, Reading, &str); 18] = [
     (
         "range-short",
         Reading::RangeShort,
@@ -118,25 +114,5 @@ pub const READINGS: [(&str, Reading, &str); 22] = [
         "three-lets-touching-in",
         Reading::ThreeLetsTouchingIn,
         "3 lets ranges in that touch",
-    ),
-    (
-        "removed-counts-visits",
-        Reading::RemovedCountsVisits,
-        "only rules that were visited as removed are counted as removed",
-    ),
-    (
-        "removed-at-entry",
-        Reading::RemovedAtEntry,
-        "removed rules are counted by the ranges held at the call's entry",
-    ),
-    (
-        "idle-counts-none",
-        Reading::IdleCountsNone,
-        "a call with nothing to do counts no removed rules",
-    ),
-    (
-        "first-of-word",
-        Reading::FirstOfWord,
-        "the first removed index is told without the multiples of 64",
     ),
 ];

@@ -9,7 +9,6 @@ use Rattle.refusals.specs.declared.first.Sizes.{Sizes}
 use Rattle.abi.specs.declared.marker_words.MarkerWords.{MarkerWords}
 use Rattle.transaction.specs.declared.types.Answer.{Answer}
 use Rattle.transaction.specs.declared.types.Phase.{Phase}
-use Rattle.reading.specs.RemovedCount.{none_removed}
 use Rattle.transaction.specs.RunPhase.{call_of, answer_without, Ran}
 use Rattle.abi.specs.declared.host_phase.HostTransaction.{HostTransaction}
 use Rattle.abi.specs.HostRecord.{known, from_host, to_host}
@@ -37,7 +36,7 @@ unknown_answer q =
 
 -- 01: "transaction and lists are found exactly as lent"
 pub record Refused (h : HostTransaction) (q : Call) (l : LentLists) (a : Answer) (h' : HostTransaction) (l' : LentLists) : Type 0 where
-  pub answer : a ≡ answer_without (unknown_answer q) none_removed
+  pub answer : a ≡ answer_without (unknown_answer q)
   pub transaction : h' ≡ h
   pub lists : l' ≡ l
 

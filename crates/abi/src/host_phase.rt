@@ -3,7 +3,6 @@
 // not known is refused as it is. The parts of a record are those of the modules values, host_controls and host_intervention.
 ghost use Rattle.std.specs.Prelude.{◌≡◌, ◌/◌, take};
 ghost use Rattle.reading.specs.Call.{Call};
-ghost use Rattle.reading.specs.RemovedCount.{none_removed};
 ghost use Rattle.refusals.specs.FirstRefusal.{Counted};
 ghost use Rattle.reading.specs.Records.{marker_list, given_of, lent};
 ghost use Rattle.transaction.specs.RunPhase.{answer_without};
@@ -18,7 +17,6 @@ use control::fields;
 use reading::{CallSettings, widths};
 use refusals::first;
 use refusals::first::{Counts, Sizes};
-use report::removed;
 use transaction::types::{Answer, Transaction};
 use transaction::{outcome, run_phase};
 
@@ -151,9 +149,9 @@ fn unknown_answer(call: CallSettings, counts: Counts, sizes: Sizes) -> u64
 
 // An answer that leaves the record as it was.
 fn as_lent(answer: u64, h: HostTransaction) -> HostPhase
-    ensures { result ≡ record { answer = answer_without answer none_removed; transaction = h } }
+    ensures { result ≡ record { answer = answer_without answer; transaction = h } }
 {
-    let answer = outcome::unvisited(answer, removed::none());
+    let answer = outcome::unvisited(answer);
     HostPhase {
         answer,
         transaction: h,

@@ -1,5 +1,5 @@
 -- The controls in parts: their settings and counts by value, and their four arrays lent, so that a change copies none of them.
-use Rattle.std.specs.Prelude.{ℕ, ◌+◌, ◌≤◌, ◌<◌, ◌≡◌, ◌⊎◌, Bool, true, false, cond, ◌||◌, List, [], ltb, leb, length, drop, get_or}
+use Rattle.std.specs.Prelude.{ℕ, ◌+◌, ◌≤◌, ◌<◌, ◌≡◌, ◌⊎◌, Bool, true, false, cond, ◌||◌, List, [], ltb, leb, length, drop}
 use Rattle.reading.specs.declared.Place.{Place}
 use Rattle.reading.specs.declared.RuleIdRange.{RuleIdRange}
 use Rattle.reading.specs.Limits.{most_ranges, most_targets}
@@ -53,10 +53,6 @@ TargetAdded h at phases positions r phases' positions' =
 pub record Fitting (value : List ℕ) (used n : ℕ) : Type 0 where
   pub all : (n ≡ 0 → ⊥) → (length (ranges_in (id_parts value)) ≡ n) × (ranges_of (removal_value value) ≡ ranges_in (id_parts value)) × (used + n ≤ 256)
   pub none : n ≡ 0 → (ranges_of (removal_value value) ≡ []) ⊎ (256 < used + length (ranges_of (removal_value value)))
-
--- two bounds between which the ranges lie that stand at the places from one index up to another
-abbrev pub Around : ℕ → ℕ → List ℕ → List ℕ → RuleIdRange → Type 0
-Around from to starts ends r = (i : ℕ) → from ≤ i → i < to → (r.start ≤ get_or starts i 0) × (get_or ends i 0 ≤ r.end)
 
 -- the ranges of a value, whatever the arrays of the targets are
 abbrev pub RangesAdded : ControlCounts → List ℕ → List ℕ → List ℕ → ControlCounts → List ℕ → List ℕ → Type 0

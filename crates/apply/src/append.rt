@@ -1,19 +1,15 @@
 // One target, and the ranges of a value, added to controls whose arrays are lent.
-ghost use Rattle.std.specs.Prelude.{◌+◌, ◌≤◌, ◌<◌, ◌≡◌, map, length};
+ghost use Rattle.std.specs.Prelude.{◌+◌, ◌≤◌, ◌≡◌, map, length};
 ghost use Rattle.std.proofs.lemmas.List.Edits.{sets};
 ghost use Rattle.reading.specs.Text.{id_parts, ranges_in};
 ghost use Rattle.reading.specs.Directive.{start_of, end_of};
-ghost use Rattle.reading.specs.Records.{rule_list};
-ghost use Rattle.reading.specs.Controls.{range_list};
-ghost use Rattle.removal.specs.Renewal.{Renewed};
-ghost use Rattle.apply.specs.Append.{TargetAdded, Fitting, RangesAdded, Around};
+ghost use Rattle.apply.specs.Append.{TargetAdded, Fitting, RangesAdded};
 
 use control::ranges;
 use control::state::Settings;
 use ctl::range_count::RangeCount;
 use ctl::{id_ranges, range_count};
-use reading::{Place, RuleIdRange, limits};
-use removal::{bits, renew};
+use reading::{Place, limits};
 use text::trim;
 
 // What of the controls is passed by value: their settings, and how many places of their arrays are in use. The four arrays
@@ -81,35 +77,15 @@ fn fitting(value: &[u8], used: usize) -> usize
     n
 }
 
-// Two bounds between which the ranges lie that stand at the places from one index up to another, of which there is at least one.
-fn around(starts: &[u64], ends: &[u64], from: usize, to: usize) -> RuleIdRange
-    requires { (from < to) × (to ≤ length starts.now) × (to ≤ length ends.now) }
-    ensures { Around from to starts.now ends.now result }
-{
-    let mut start = starts[from];
-    let mut end = ends[from];
-    let mut i = from + 1;
-    while i < to {
-        start = ranges::smaller(starts[i], start);
-        end = ranges::larger(ends[i], end);
-        i += 1;
-    }
-    RuleIdRange { start, end }
-}
-
-// The ranges of a value merged in, all or none, and the bits of the rules renewed that they remove. The first addition of a call makes every place after the ranges in use 0; later ones find
+// The ranges of a value merged in, all or none. The first addition of a call makes every place after the ranges in use 0; later ones find
 // them so, and merging keeps it.
 pub fn add_ranges(
     h: ControlCounts,
     value: &[u8],
-    rules: &[u64],
     starts: &mut [u64; limits::RANGES],
     ends: &mut [u64; limits::RANGES],
-    words: &mut [u64; bits::WORDS],
 ) -> ControlCounts
-    ensures ranges_added { RangesAdded h value.now starts.old ends.old result starts.new ends.new }
-    ensures renewed { Renewed (rule_list rules.now) (range_list h.ranges starts.old ends.old) words.old
-        (range_list result.ranges starts.new ends.new) words.new }
+    ensures { RangesAdded h value.now starts.old ends.old result starts.new ends.new }
 {
     let used = h.ranges;
     ranges::clear_once(h.added, starts, used);
@@ -127,12 +103,9 @@ pub fn add_ranges(
         };
     }
     write_after(v, used, starts, ends);
-    let bounds = around(starts, ends, used, used + n);
-    let ranges = ranges::merge_after(starts, ends, used, used + n);
-    renew::mark(rules, starts, ends, ranges, bounds, words);
     ControlCounts {
         settings,
-        ranges,
+        ranges: ranges::merge_after(starts, ends, used, used + n),
         targets,
         added: true,
     }

@@ -1,10 +1,7 @@
 // What a closed unit's actions do to the controls (`TransactionControls::apply`), by the codes of the module codes, so that no
-// text but that of added ranges is read again. A unit's members are the matched entries of a lent part of the journal. Where ranges are
-// added, the bits of the rules that they remove are renewed.
+// text but that of added ranges is read again. A unit's members are the matched entries of a lent part of the journal.
 ghost use Rattle.std.specs.Prelude.{[], ◌∷◌, ltb, eqb, get_or};
 ghost use Rattle.reading.specs.Lists.{keep};
-ghost use Rattle.reading.specs.Controls.{range_list};
-ghost use Rattle.removal.specs.Renewal.{Renewed};
 ghost use Rattle.reading.specs.Text.{part_of};
 ghost use Rattle.reading.specs.Walk.{no_action};
 ghost use Rattle.reading.specs.Records.{rule_list, action_list, journal_list, matched_in};
@@ -18,7 +15,6 @@ use crate::append::ControlCounts;
 use crate::{append, changes, codes, settings};
 use actions::record;
 use reading::{Place, Rule, limits, widths};
-use removal::bits;
 use ruleset::rules;
 use text::span;
 
@@ -31,20 +27,16 @@ fn apply(
     actions: &[u64],
     text: &[u8],
     phase: u64,
-    rules: &[u64],
     starts: &mut [u64; limits::RANGES],
     ends: &mut [u64; limits::RANGES],
     phases: &mut [u64; limits::TARGETS],
     positions: &mut [u64; limits::TARGETS],
-    words: &mut [u64; bits::WORDS],
 ) -> ControlCounts
-    ensures turned { Turned (ltb 17 code) h starts.old ends.old phases.old positions.old
+    ensures { Turned (ltb 17 code) h starts.old ends.old phases.old positions.old
         result starts.new ends.new phases.new positions.new
         (applied_code (record { phase = phase; position = i })
         (part_of text.now (get_or (action_list actions.now) i no_action).value) code
         (controls_of (struct_of h starts.old ends.old phases.old positions.old))) }
-    ensures renewed { Renewed (rule_list rules.now) (range_list h.ranges starts.old ends.old) words.old
-        (range_list result.ranges starts.new ends.new) words.new }
 {
     if code <= codes::XML {
         let settings = settings::set_by_code(h.settings, code);
@@ -66,7 +58,7 @@ fn apply(
     }
     let action = record::action_at(actions, i);
     let value = span::part_of(text, action.value);
-    append::add_ranges(h, value, rules, starts, ends, words)
+    append::add_ranges(h, value, starts, ends)
 }
 
 // The controls after a rule's actions.
@@ -77,19 +69,15 @@ fn rule_controls(
     text: &[u8],
     codes: &[u16],
     phase: u64,
-    rules: &[u64],
     starts: &mut [u64; limits::RANGES],
     ends: &mut [u64; limits::RANGES],
     phases: &mut [u64; limits::TARGETS],
     positions: &mut [u64; limits::TARGETS],
-    words: &mut [u64; bits::WORDS],
 ) -> ControlCounts
-    ensures turned { Turned (rule_adds codes.now rule) h starts.old ends.old phases.old positions.old
+    ensures { Turned (rule_adds codes.now rule) h starts.old ends.old phases.old positions.old
         result starts.new ends.new phases.new positions.new
         (rule_by_codes (record { phase = phase; text = text.now; actions = action_list actions.now }) codes.now rule
         (controls_of (struct_of h starts.old ends.old phases.old positions.old))) }
-    ensures renewed { Renewed (rule_list rules.now) (range_list h.ranges starts.old ends.old) words.old
-        (range_list result.ranges starts.new ends.new) words.new }
 {
     let first = rule.first as usize;
     let end = changes::codes_end(codes.len(), first, rule.count as usize);
@@ -98,7 +86,7 @@ fn rule_controls(
     while i < end {
         let code = codes[i];
         r = apply(
-            r, code, i, actions, text, phase, rules, starts, ends, phases, positions, words,
+            r, code, i, actions, text, phase, starts, ends, phases, positions,
         );
         i += 1;
     }
@@ -119,20 +107,17 @@ fn entry_controls(
     ends: &mut [u64; limits::RANGES],
     phases: &mut [u64; limits::TARGETS],
     positions: &mut [u64; limits::TARGETS],
-    words: &mut [u64; bits::WORDS],
 ) -> ControlCounts
-    ensures turned { Turned (unit_adds codes.now (rule_list rules.now) (keep (eqb verdict 1) (index ∷ []))) h starts.old ends.old phases.old positions.old
+    ensures { Turned (unit_adds codes.now (rule_list rules.now) (keep (eqb verdict 1) (index ∷ []))) h starts.old ends.old phases.old positions.old
         result starts.new ends.new phases.new positions.new
         (unit_by_codes (record { phase = phase; text = text.now; actions = action_list actions.now }) codes.now
         (rule_list rules.now) (keep (eqb verdict 1) (index ∷ []))
         (controls_of (struct_of h starts.old ends.old phases.old positions.old))) }
-    ensures renewed { Renewed (rule_list rules.now) (range_list h.ranges starts.old ends.old) words.old
-        (range_list result.ranges starts.new ends.new) words.new }
 {
     if verdict == 1 {
         let rule = rules::rule_at(rules, index as usize);
         return rule_controls(
-            h, rule, actions, text, codes, phase, rules, starts, ends, phases, positions, words,
+            h, rule, actions, text, codes, phase, starts, ends, phases, positions,
         );
     }
     h
@@ -151,15 +136,12 @@ fn members_controls(
     ends: &mut [u64; limits::RANGES],
     phases: &mut [u64; limits::TARGETS],
     positions: &mut [u64; limits::TARGETS],
-    words: &mut [u64; bits::WORDS],
 ) -> ControlCounts
-    ensures turned { Turned (unit_adds codes.now (rule_list rules.now) (matched_in (journal_list entries.now))) h starts.old ends.old phases.old positions.old
+    ensures { Turned (unit_adds codes.now (rule_list rules.now) (matched_in (journal_list entries.now))) h starts.old ends.old phases.old positions.old
         result starts.new ends.new phases.new positions.new
         (unit_by_codes (record { phase = phase; text = text.now; actions = action_list actions.now }) codes.now
         (rule_list rules.now) (matched_in (journal_list entries.now))
         (controls_of (struct_of h starts.old ends.old phases.old positions.old))) }
-    ensures renewed { Renewed (rule_list rules.now) (range_list h.ranges starts.old ends.old) words.old
-        (range_list result.ranges starts.new ends.new) words.new }
 {
     let n = entries.len() / widths::JOURNAL_ENTRY;
     let mut r = h;
@@ -169,7 +151,6 @@ fn members_controls(
         let verdict = entries[widths::JOURNAL_ENTRY * i + 1];
         r = entry_controls(
             r, index, verdict, rules, actions, text, codes, phase, starts, ends, phases, positions,
-            words,
         );
         i += 1;
     }
@@ -189,20 +170,17 @@ pub fn unit_controls(
     ends: &mut [u64; limits::RANGES],
     phases: &mut [u64; limits::TARGETS],
     positions: &mut [u64; limits::TARGETS],
-    words: &mut [u64; bits::WORDS],
 ) -> ControlCounts
-    ensures turned { Turned (unit_adds codes.now (rule_list rules.now) (matched_in (journal_list entries.now))) h starts.old ends.old phases.old positions.old
+    ensures { Turned (unit_adds codes.now (rule_list rules.now) (matched_in (journal_list entries.now))) h starts.old ends.old phases.old positions.old
         result starts.new ends.new phases.new positions.new
         (unit_by_codes (record { phase = phase; text = text.now; actions = action_list actions.now }) codes.now
         (rule_list rules.now) (matched_in (journal_list entries.now))
         (controls_of (struct_of h starts.old ends.old phases.old positions.old))) }
-    ensures renewed { Renewed (rule_list rules.now) (range_list h.ranges starts.old ends.old) words.old
-        (range_list result.ranges starts.new ends.new) words.new }
 {
     if !changes::changes(entries, rules, codes) {
         return h;
     }
     members_controls(
-        h, entries, rules, actions, text, codes, phase, starts, ends, phases, positions, words,
+        h, entries, rules, actions, text, codes, phase, starts, ends, phases, positions,
     )
 }

@@ -6,7 +6,7 @@ use ctl::{directive, read};
 use libc::STDOUT_FILENO;
 use reading::{
     Action, CtlDirective, Intervention, JournalEntry, ModeSetting, OptionDirective,
-    OptionIntervention, OptionU64, Part, RemovedRules, Rule, RuleEngineMode, UnsupportedAt,
+    OptionIntervention, OptionU64, Part, Rule, RuleEngineMode, UnsupportedAt,
 };
 use ruleset::rules;
 use text::{ascii, span};
@@ -559,23 +559,13 @@ pub fn write_end(allowed: bool, stop: OptionIntervention) {
     }
 }
 
-// The first unsupported directive of the closed units, where there is one.
+// The first unsupported directive of the closed units, where there is one, and the end of the line.
 pub fn write_unsupported(u: UnsupportedAt) {
     if u.reason != 0 {
         write(b" | unsupported ");
         write_number(u.index);
         write(b" ");
         write_number(u.reason);
-    }
-}
-
-// How many rules are removed at the end and the first of them, where there is one, and the end of the line.
-pub fn write_removed(r: RemovedRules) {
-    if r.count != 0 {
-        write(b" | removed ");
-        write_number(r.count);
-        write(b" first ");
-        write_number(r.first);
     }
     write(b"\n");
 }

@@ -26,7 +26,6 @@ fn write_after(p: Phase, ids: &[u64; 16], entries: &[u64; 64]) {
     case_walk::write_controls(settings, &held.starts, &held.ends, count);
     case_walk::write_end(after.allowed, stop);
     case_walk::write_unsupported(p.answer.report.unsupported);
-    case_walk::write_removed(p.answer.removed);
 }
 
 // What stands after the last visit. The transaction had neither allow nor intervention before the call, so that visit gave

@@ -73,7 +73,7 @@ fn is_apart(end: u64, start: u64) -> bool
     1 < start - end
 }
 
-pub fn smaller(a: u64, b: u64) -> u64
+fn smaller(a: u64, b: u64) -> u64
     ensures { result ≡ min a b }
 {
     if a < b {
@@ -82,7 +82,7 @@ pub fn smaller(a: u64, b: u64) -> u64
     b
 }
 
-pub fn larger(a: u64, b: u64) -> u64
+fn larger(a: u64, b: u64) -> u64
     ensures { result ≡ max a b }
 {
     if a < b {

@@ -3,7 +3,6 @@ pub mod Table
 pub mod Points
 pub mod Unsupported
 pub mod RangeCases
-pub mod RemovedCases
 pub mod Reader
 pub mod Differences
 pub mod Metadata

@@ -8,7 +8,6 @@ use Rattle.reading.specs.Units.{unit_disruptive, unit_intervention, is_stopping}
 use Rattle.reading.specs.Walk.{walk_of, journal_of, is_stopped}
 use Rattle.reading.specs.Replay.{last_closed, replayed_ids, replayed_data, replayed_controls, replayed_allow, replayed_intervention}
 use Rattle.reading.specs.Report.{report_of}
-use Rattle.reading.specs.RemovedCount.{removed_rules}
 use Rattle.reading.specs.Outcome.{Outcome, at_free_end}
 
 -- entries whose indexes are at least `from`, below `n`, and each greater than the one before it
@@ -27,8 +26,6 @@ pub record Accounted (q : Call) (o : Outcome) : Type 0 where
   -- what is told besides is told by that journal; of it the first unsupported directive by the journal's closed units alone. 02: "What is
   -- found after a phase now includes this pair."
   pub report : o.report ≡ report_of q.given (found_journal o)
-  -- 02: "the number of removed rules and the first removed index, or none, by the ranges held at the phase's end"
-  pub removed : o.removed ≡ removed_rules q.given.rules (replayed_controls q.given q.transaction (found_journal o)).ranges
   -- "the indexes strictly rising"
   pub rising : Rises (rule_count q.given) 0 (found_journal o)
   -- "Ids, data, controls and allow are then those at entry plus what 01's closed units of that whole journal give, in order."

@@ -15,7 +15,6 @@ pub mod Units
 pub mod Walk
 pub mod Replay
 pub mod Report
-pub mod RemovedCount
 pub mod Outcome
 pub mod Demand3
 pub mod Manual

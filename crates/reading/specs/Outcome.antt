@@ -2,13 +2,11 @@
 use Rattle.std.specs.Prelude.{ℕ, ◌+◌, cond, ◌||◌, List, ◌++◌, length, take, drop}
 use Rattle.reading.specs.declared.OptionIntervention.{OptionIntervention}
 use Rattle.reading.specs.declared.Report.{Report}
-use Rattle.reading.specs.declared.RemovedRules.{RemovedRules}
 use Rattle.reading.specs.Lists.{keep, over}
 use Rattle.reading.specs.Call.{Given, Call, Transaction, Lists}
 use Rattle.reading.specs.Refusals.{refusal_of, is_accepted}
 use Rattle.reading.specs.Walk.{Visit, walk_of, journal_of, ids_of, data_of, controls_after, allowed_by, intervention_by, answer_by, error_index_by}
 use Rattle.reading.specs.Report.{report_by}
-use Rattle.reading.specs.RemovedCount.{none_removed, removed_rules}
 
 -- the visits of a call: a refused one has none, so that whatever follows from them is as found
 unfoldable pub visits_of : Call → List Visit
@@ -30,8 +28,6 @@ pub record Outcome : Type 0 where
   -- how many entries the journal holds, and what is told besides
   pub visits : ℕ
   pub report : Report
-  -- how many rules are removed at the end, and the first of them
-  pub removed : RemovedRules
   pub transaction : Transaction
   pub lists : Lists
 
@@ -53,11 +49,6 @@ lists_after g t lent vs = record {
   journal = over lent.journal (journal_of vs);
 }
 
--- 02: "by the ranges held at the phase's end; a refused call answers 0 and none". A call with nothing to do is not refused: it has the
--- ranges that it found.
-abbrev pub removed_after : Call → List Visit → RemovedRules
-removed_after q vs = cond (is_accepted q) (removed_rules q.given.rules (controls_after q.transaction.controls vs).ranges) none_removed
-
 unfoldable pub outcome_of : Call → Outcome
 outcome_of q =
     let vs = visits_of q in
@@ -66,7 +57,6 @@ outcome_of q =
       error = error_index_by vs;
       visits = length vs;
       report = report_by q.given vs;
-      removed = removed_after q vs;
       transaction = transaction_after q.given q.transaction vs;
       lists = lists_after q.given q.transaction q.lists vs;
     }

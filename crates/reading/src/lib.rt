@@ -233,16 +233,6 @@ pub struct Report {
     pub unsupported: UnsupportedAt,
 }
 
-// How many of a phase's rules are removed by the ranges held at its end, and the index of the first of them.
-#[repr(C)]
-#[derive(Drop)]
-pub struct RemovedRules {
-    // How many rules are removed.
-    pub count: u64,
-    // The index of the first of them; 0 where there is none.
-    pub first: u64,
-}
-
 // What a visit finds of its rule.
 #[derive(Drop)]
 pub enum Verdict {

@@ -12,7 +12,7 @@
 //     actions  := n (kind number text-start text-len value-start value-len)*
 //     markers  := n (name-start name-len position)*
 //     outcomes := n outcome*
-//     expected := answer error visits ids entries mode access processor ranges targets allowed stop unsupported removed
+//     expected := answer error visits ids entries mode access processor ranges targets allowed stop unsupported
 //     visits   := n (index verdict)*, without the removed: the Rust does not evaluate a removed rule
 //     ids      := n id*, those that the call added
 //     entries  := n (present id index)*, those that the call added; id 0 where there is none
@@ -20,7 +20,6 @@
 //     stop     := 0 none | 2 held before the call | 1 status drop url log ids phase metadata
 //     metadata := id msg logdata rev ver severity maturity accuracy
 //     unsupported := index reason, both 0 where there is none
-//     removed  := count first, both 0 where there is none
 //
 // Mode, access and processor are 0 where not set, else 1 more than their number. The ranges of a result are all that are held.
 // In a stop, url, log, msg, logdata, rev and ver are 0, or 1 and a text; id, severity, maturity and accuracy are 0, or 1 and
@@ -34,7 +33,7 @@ mod replay_line;
 use crate::replay_line::{Expected, Given, Line};
 use control::state::{Controls, Settings};
 use libc::{STDIN_FILENO, STDOUT_FILENO};
-use reading::{CallSettings, OptionIntervention, RemovedRules, UnsupportedAt};
+use reading::{CallSettings, OptionIntervention, UnsupportedAt};
 use transaction::run_phase;
 use transaction::types::{Phase, Transaction};
 
@@ -264,12 +263,6 @@ fn compare_unsupported(c: Tally, e: Expected, told: UnsupportedAt) -> Tally {
     c.told(same, b"unsupported")
 }
 
-// How many rules are removed at the end, and the first of them.
-fn compare_removed(c: Tally, e: Expected, told: RemovedRules) -> Tally {
-    let same = told.count == e.removed_count && told.first == e.removed_first;
-    c.told(same, b"removed")
-}
-
 // One call, and what it gave beside what is recorded.
 fn run_call(
     r: Replayed,
@@ -296,13 +289,11 @@ fn run_call(
         &journal,
     );
     let report = p.answer.report;
-    let removed = p.answer.removed;
-    let held = compare(t, list, bytes, g, e, before, after);
-    let whole = compare_unsupported(held, e, report.unsupported);
+    let whole = compare(t, list, bytes, g, e, before, after);
     Replayed {
         at: e.end,
         transaction: after,
-        tally: compare_removed(whole, e, removed),
+        tally: compare_unsupported(whole, e, report.unsupported),
     }
 }
 

@@ -55,8 +55,6 @@ pub struct Expected {
     pub stop: usize,
     pub unsupported_index: u64,
     pub unsupported_reason: u64,
-    pub removed_count: u64,
-    pub removed_first: u64,
     pub end: usize,
 }
 
@@ -313,7 +311,6 @@ pub fn expected_at(list: &[u64], at: usize) -> Expected {
     let allowed = past_targets(list, targets);
     let stop = ahead(list, allowed, 1);
     let unsupported = past_stop(list, stop);
-    let removed = ahead(list, unsupported, 2);
     Expected {
         answer: number_at(list, at),
         error: number_after(list, at, 1),
@@ -329,9 +326,7 @@ pub fn expected_at(list: &[u64], at: usize) -> Expected {
         stop,
         unsupported_index: number_at(list, unsupported),
         unsupported_reason: number_after(list, unsupported, 1),
-        removed_count: number_at(list, removed),
-        removed_first: number_after(list, removed, 1),
-        end: ahead(list, removed, 2),
+        end: ahead(list, unsupported, 2),
     }
 }
 

@@ -1,2 +1,1 @@
-pub mod ByBits
 pub mod ByCodes

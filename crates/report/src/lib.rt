@@ -1,3 +1,2 @@
-pub mod removed;
 pub mod unsupported;
 pub mod verdicts;

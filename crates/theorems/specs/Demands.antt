@@ -10,7 +10,7 @@ use Rattle.reading.specs.Lists.{keep}
 use Rattle.reading.specs.Call.{Given, Call, Transaction, Lists, rule_count, is_link, mode_under}
 use Rattle.reading.specs.Controls.{Controls, is_on}
 use Rattle.reading.specs.Units.{unit_disruptive, unit_intervention, is_stopping}
-use Rattle.reading.specs.Walk.{Visit, walk, start, walk_of, is_stopped, nothing_to_do, journal_of, controls_after, allowed_by, intervention_by, answer_by, error_index_by, is_error}
+use Rattle.reading.specs.Walk.{Visit, walk, start, walk_of, is_stopped, nothing_to_do, journal_of, allowed_by, intervention_by, answer_by, error_index_by, is_error}
 use Rattle.reading.specs.Replay.{held_after, units_of, last_closed_from, last_closed, stop_of, replayed_controls, replayed_intervention}
 use Rattle.reading.specs.Refusals.{refusal_of, refused1, refused2, refused3, refused4, refused5, refused6, refused7, refused8, refused9}
 use Rattle.reading.specs.Outcome.{Outcome, visits_of, outcome_of, at_free_end, if_none, transaction_after, lists_after}
@@ -20,7 +20,6 @@ use Rattle.theorems.specs.Replayed.{Replayed, walk-replayed}
 use Rattle.theorems.specs.Rising.{indexes-rise}
 use Rattle.theorems.specs.WithinLimits.{accepted-visits, length-journal}
 use Rattle.reading.specs.Report.{no_report, report_by}
-use Rattle.reading.specs.RemovedCount.{none_removed, removed_rules}
 use Rattle.theorems.specs.Reported.{report-told}
 use Rattle.theorems.specs.Answers.{ErrorFound, ten-only-after-error, zero-or-ten}
 
@@ -113,20 +112,6 @@ other-answers-no-index q h = by (eqb (refusal_of q) 0) refl
 pub ten-has-cause : (q : Call) → (outcome_of q).answer ≡ 10 → ErrorFound q.given q.transaction.controls (walk_of q.given q.transaction)
 ten-has-cause q h = ten-only-after-error q.given q.transaction (sym (accepted-answer q (answered-accepted q (inr h))) ∙ h)
 
--- WHICH RULES ARE REMOVED
-
--- 02: "a refused call answers 0 and none"
-pub refused-none-removed : (q : Call) → (refusal_of q ≡ 0 → ⊥) → (outcome_of q).removed ≡ none_removed
-unfolding outcome_of
-refused-none-removed q h =
-    ap (λ (b : Bool). cond b (removed_rules q.given.rules (controls_after q.transaction.controls (visits_of q)).ranges) none_removed) (ne_eqb (refusal_of q) 0 h)
-
--- any other is told by the ranges that are found after it
-pub removed-by-found : (q : Call) → refusal_of q ≡ 0 → (outcome_of q).removed ≡ removed_rules q.given.rules (outcome_of q).transaction.controls.ranges
-unfolding outcome_of
-removed-by-found q e =
-    ap (λ (b : Bool). cond b (removed_rules q.given.rules (controls_after q.transaction.controls (visits_of q)).ranges) none_removed) (eq-eqb (refusal_of q) 0 e)
-
 -- DEMAND 3, WHOLE
 
 pub demand3 : (q : Call) → Demand3 q (outcome_of q)
@@ -136,19 +121,16 @@ demand3 q answered unallowed unstopped =
     let vs : visits_of q ≡ walk_of q.given q.transaction = accepted-visits q e in
     let r : Replayed q.given [] q.transaction.controls (walk_of q.given q.transaction) = walk-replayed q.given q.transaction in
     let found : found_journal (outcome_of q) ≡ journal_of (walk_of q.given q.transaction) = found-is q ∙ ap journal_of vs in
-    let held : (outcome_of q).transaction.controls ≡ replayed_controls q.given q.transaction (found_journal (outcome_of q)) =
-    rw (found, vs, ← r.units) r.controls in
     record {
       visits = ap length vs;
       journal = found;
       report = rw found (ap (report_by q.given) vs ∙ report-told q.given q.transaction);
-      removed = removed-by-found q e ∙ ap (λ (c : Controls). removed_rules q.given.rules c.ranges) held;
       rising = rw found (indexes-rise q.given q.transaction);
       ids = rw (found, vs, ← r.units);
       ids-used = rw (found, vs, ← r.units);
       data-entries = rw (found, vs, ← r.units);
       data-used = rw (found, vs, ← r.units);
-      controls = held;
+      controls = rw (found, vs, ← r.units) r.controls;
       allow = rw (found, vs, ← r.units) (ap (λ (b : Bool). b || allowed_by (walk_of q.given q.transaction)) unallowed ∙ r.allow);
       intervention =
           rw (found, vs, ← r.units, ← r.controls) (
@@ -267,9 +249,3 @@ pub idle-answer : (q : Call) → refusal_of q ≡ 0 → nothing_to_do q.given q.
 unfolding walk_of
 idle-answer q e h =
     accepted-answer q e ∙ ap (λ (b : Bool). answer_by (keep (not b) (walk (rule_count q.given) q.given (start q.transaction)))) h
-
--- so a call with nothing to do has the ranges that it found
-pub idle-removed : (q : Call) → refusal_of q ≡ 0 → nothing_to_do q.given q.transaction ≡ true
-    → (outcome_of q).removed ≡ removed_rules q.given.rules q.transaction.controls.ranges
-idle-removed q e h =
-    removed-by-found q e ∙ ap (λ (t : Transaction). removed_rules q.given.rules t.controls.ranges) (idle-as-lent q e h).transaction

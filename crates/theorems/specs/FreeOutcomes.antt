@@ -25,7 +25,6 @@ use Rattle.reading.specs.Refusals.{bad_outcome, refused1, refused2, refused3, re
 use Rattle.reading.specs.Units.{starter_of, member_data, data_entry, unit_data, action_controls, rule_controls, unit_controls, unit_flow, unit_disruptive, unit_intervention, stop_status, is_allow, is_stopping}
 use Rattle.reading.specs.Walk.{State, Visit, allows, goes_on, stops, is_last, verdict_by, verdict_at, after_chain, jump_from, marker_name, after_flow, ending_by, visit_by, visit_at, is_visited, walk, walk_of, start, nothing_to_do, entry_of, journal_of, closed_in, ids_of, data_of, controls_after, allowed_by, intervention_by, answer_by, error_index_by}
 use Rattle.reading.specs.declared.UnsupportedAt.{UnsupportedAt}
-use Rattle.reading.specs.RemovedCount.{none_removed, removed_rules}
 use Rattle.reading.specs.Report.{member_unsupported, unit_unsupported, first_or, unsupported_by, visits_with, report_by}
 use Rattle.reading.specs.Outcome.{visits_of, outcome_of, at_free_end, if_none}
 
@@ -329,7 +328,7 @@ module _ (outcomes : List ℕ) (q : Call) (known : SameOutcomes q.given (with_ou
     unsupported = visits-unsupported vs i;
   }
 
-  -- a call that is refused alike, or not at all, has the same outcome: answer, error, visits, report, removed rules, transaction and lists
+  -- a call that is refused alike, or not at all, has the same outcome: answer, error, visits, report, transaction and lists
   refused-alike : refusal_of (call_with_outcomes outcomes q) ≡ refusal_of q → outcome_of (call_with_outcomes outcomes q) ≡ outcome_of q
   unfolding outcome_of id_at rule_at
   refused-alike h =
@@ -343,7 +342,6 @@ module _ (outcomes : List ℕ) (q : Call) (known : SameOutcomes q.given (with_ou
         error = error_index_by (visits i);
         visits = length (visits i);
         report = report i;
-        removed = cond (eqb (h i) 0) (removed_rules q.given.rules (controls_after t.controls (visits i)).ranges) none_removed;
         transaction = record {
           controls = controls_after t.controls (visits i);
           allowed = t.allowed || allowed_by (visits i);

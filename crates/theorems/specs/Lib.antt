@@ -7,7 +7,6 @@ pub mod WithinLimits
 pub mod Answers
 pub mod WalkRanges
 pub mod Reported
-pub mod RemovedTold
 pub mod Reasons
 pub mod Demands
 pub mod Readings

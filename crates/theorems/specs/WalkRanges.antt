@@ -66,7 +66,7 @@ append-ordered : (xs ys : List RuleIdRange) → AllOrdered xs → AllOrdered ys 
 append-ordered [] ys o p = p
 append-ordered (x ∷ xs) ys o p = (o.0, append-ordered xs ys o.1 p)
 
-pub parts-ordered : (ps : List (List ℕ)) → AllOrdered (ranges_in ps)
+parts-ordered : (ps : List (List ℕ)) → AllOrdered (ranges_in ps)
 unfolding ranges_in
 parts-ordered [] = tt
 parts-ordered (p ∷ ps) = append-ordered (range_in (id_part p)) (ranges_in ps) (part-ordered p) (parts-ordered ps)

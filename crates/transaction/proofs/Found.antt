@@ -1,53 +1,45 @@
 -- The visit that the code makes is the definition's. Assumes nothing.
 use Prim.Native.Nat.{ℕ, ◌+◌, ◌-◌, ◌≤◌, ◌<◌, min}
 use mathlib.Core.Path.{◌≡◌, refl, sym, ap, ◌∙◌}
-use mathlib.Core.Bool.{Bool, true, false, cond, not, ◌||◌}
+use mathlib.Core.Bool.{Bool, true, false, cond}
 use mathlib.Core.List.{List, [], ◌∷◌, ◌++◌, append-nil}
 use native.Mathlib.Omega.{arith}
 use native.Mathlib.Numerals.{add-one}
 use borrow.Author.Tests.{lt-ltb}
 use lib.Dec.{eqb, ltb}
-use lib.ListN.{length, drop, get_or, replicate}
+use lib.ListN.{length, drop, get_or}
 use Rattle.reading.specs.declared.Verdict.{Verdict}
 use Rattle.reading.specs.declared.Rule.{Rule}
 use Rattle.reading.specs.declared.RuleEngineMode.{RuleEngineMode}
 use Rattle.reading.specs.Lists.{keep}
 use Rattle.reading.specs.Numbers.{verdict_number, mode_of_number}
 use Rattle.reading.specs.Reading.{rust}
-use Rattle.reading.specs.Controls.{Controls, is_off, range_list, mode_or}
+use Rattle.reading.specs.Controls.{Controls, is_removed, range_list, mode_or}
 use Rattle.reading.specs.Call.{Given, rule_count, rule_at, id_at, outcome_at, record_id, is_link, no_rule, mode_under}
-use Rattle.reading.specs.Units.{unit_controls, unit_flow, unit_intervention}
+use Rattle.reading.specs.Units.{unit_controls, unit_flow}
 use Rattle.reading.specs.Walk.{State, Visit, visit_by, visit_at, verdict_at, verdict_by, after_chain, after_flow, entry_of, chain_rest}
 use Rattle.theorems.specs.MergedRanges.{Merged}
 use Rattle.control.specs.declared.state.Controls as held
 use Rattle.control.specs.ControlsStruct.{controls_of}
-use Rattle.control.proofs.state.HeldLaws.{ranges-length}
-use Rattle.removal.specs.Bits.{bits_of, marked}
-use Rattle.removal.specs.Renewal.{held_hits, Agrees, Kept}
-use Rattle.removal.proofs.renew.RenewLaws.{made_kept}
+use Rattle.control.specs.Halving.{found_by_halving}
+use Rattle.control.proofs.ranges.HalvingLaws.{halving-finds}
 use Rattle.unit.specs.declared.visit.VisitOutcome.{VisitOutcome}
 use Rattle.unit.specs.declared.visit.State as code
 use Rattle.unit.specs.VisitRule.{entry_by, passed, found_by, found_at}
-use Rattle.intervention.specs.declared.decide.Ending.{Ending}
-use Rattle.reading.specs.declared.OptionIntervention.{OptionIntervention}
-use Rattle.transaction.specs.declared.types.WalkState.{WalkState}
-use Rattle.transaction.specs.WalkRules.{is_going, moved_by, left_by, left_under, counts_in}
-use Rattle.unit.specs.declared.close.UnitOutcome.{UnitOutcome}
-use Rattle.apply.specs.declared.append.ControlCounts.{ControlCounts}
-use Rattle.intervention.specs.EndOfVisit.{end_by}
-use Rattle.intervention.specs.BuildIntervention.{intervention_at_end}
 use Rattle.transaction.proofs.Turns.{true-false}
 
 false-true : false ≡ true → ⊥
 false-true e = true-false (sym e)
 
--- what the code finds of a rule is the definition's verdict, as long as its bit agrees with the ranges held
-found-law : (q : Given) (c : held.Controls) (words : List ℕ) (i : ℕ) (found : Verdict) → i < 512
-    → Agrees q.rules (range_list c.ranges c.starts c.ends) words
-    → found ≡ cond (get_or (bits_of 64 words) i false) Verdict.Removed (verdict_by (get_or q.outcomes i 0))
+-- what the code finds of a rule is the definition's verdict, as long as all held ranges are in the arrays and have the merged form
+found-law : (q : Given) (c : held.Controls) (i : ℕ) (found : Verdict) → c.ranges ≤ 256 → Merged (controls_of c).ranges
+    → found ≡ cond (found_by_halving (min c.ranges 256) c.starts c.ends (record_id (get_or q.rules i no_rule)))
+    Verdict.Removed (verdict_by (get_or q.outcomes i 0))
     → found ≡ verdict_at q (controls_of c) i
 unfolding verdict_at id_at rule_at outcome_at controls_of
-found-law q c words i found h a e = rw (a.each i h) at e
+found-law q c i found h f e =
+    let z : min c.ranges 256 ≡ c.ranges = omega arith in
+    rw (z, halving-finds c.ranges c.starts c.ends (record_id (get_or q.rules i no_rule)) h f) at e
 
 -- a visit has what was found in it
 found-by : (past rest : ℕ) (chained : Bool) (first : ℕ) (found : Verdict) (link : Bool)
@@ -71,42 +63,23 @@ visit-verdict rules s visits found w e = rw e (go (ltb s.next (length rules)))
     go false = refl
 
 -- the same of a visit under the ranges of a struct
-module _ (q : Given) (c : held.Controls) (words : List ℕ) (s : code.State) (visits : ℕ) (few : s.next < 512)
-    (agrees : Agrees q.rules (range_list c.ranges c.starts c.ends) words) (w : VisitOutcome)
-    (w-is : w ≡ found_at q.rules s visits (cond (get_or (bits_of 64 words) s.next false) Verdict.Removed (verdict_by (get_or q.outcomes s.next 0)))) where
-  abbrev by_bits : Verdict
-  by_bits = cond (get_or (bits_of 64 words) s.next false) Verdict.Removed (verdict_by (get_or q.outcomes s.next 0))
+module _ (q : Given) (c : held.Controls) (s : code.State) (visits : ℕ) (few : c.ranges ≤ 256) (form : Merged (controls_of c).ranges) (w : VisitOutcome)
+    (w-is : w ≡ found_at q.rules s visits
+    (cond (found_by_halving (min c.ranges 256) c.starts c.ends (record_id (get_or q.rules s.next no_rule)))
+    Verdict.Removed (verdict_by (get_or q.outcomes s.next 0)))) where
+  abbrev by_ranges : Verdict
+  by_ranges =
+      cond (found_by_halving (min c.ranges 256) c.starts c.ends (record_id (get_or q.rules s.next no_rule)))
+      Verdict.Removed (verdict_by (get_or q.outcomes s.next 0))
 
-  verdict-now : w.verdict ≡ by_bits
-  verdict-now = visit-verdict q.rules s visits by_bits w w-is
+  verdict-now : w.verdict ≡ by_ranges
+  verdict-now = visit-verdict q.rules s visits by_ranges w w-is
 
   pub verdict-found : w.verdict ≡ verdict_at q (controls_of c) s.next
-  verdict-found = found-law q c words s.next w.verdict few agrees verdict-now
+  verdict-found = found-law q c s.next w.verdict few form verdict-now
 
   pub visit-found : w ≡ found_at q.rules s visits w.verdict
   visit-found = w-is ∙ ap (found_at q.rules s visits) (sym verdict-now)
-
--- bits that agree with the ranges of a struct that has few of them, in the merged form
-pub kept_by : (rules : List Rule) (c : held.Controls) (words : List ℕ) → c.ranges ≤ 256 → Merged (controls_of c).ranges
-    → Agrees rules (range_list c.ranges c.starts c.ends) words → Kept rules (range_list c.ranges c.starts c.ends) words
-unfolding controls_of
-kept_by rules c words h f a = record { merged = f; few = omega (arith, ranges-length c); agrees = a }
-
--- the bits made when the walk begins
-pub made-agrees : (rules : List Rule) (c : held.Controls) (before words : List ℕ) → c.ranges ≤ 256 → Merged (controls_of c).ranges
-    → bits_of 64 before ≡ replicate 512 false
-    → bits_of 64 words ≡ marked (held_hits rules (min c.ranges 256) c.starts c.ends) 0 (bits_of 64 before)
-    → Agrees rules (range_list c.ranges c.starts c.ends) words
-unfolding controls_of
-made-agrees rules c before words h f z e =
-    (made_kept rules c.ranges c.starts c.ends words
-    (e ∙ ap (marked (held_hits rules (min c.ranges 256) c.starts c.ends) 0) z) f h).agrees
-
--- bits that agree with the ranges of a struct, as its controls have them
-pub agrees-of : (rules : List Rule) (c : held.Controls) (words : List ℕ) → Agrees rules (range_list c.ranges c.starts c.ends) words
-    → Agrees rules (controls_of c).ranges words
-unfolding controls_of
-agrees-of rules c words a = a
 
 -- the mode under the controls of a struct
 pub mode-law : (q : Given) (c : held.Controls) (m now : RuleEngineMode) → m ≡ mode_of_number q.settings.mode → now ≡ mode_or m
@@ -244,14 +217,3 @@ module _ (q : Given) (reading : q.reading ≡ rust) (ms : List ℕ) (c : Control
         → keep w.after.chained since ≡ visit_of.after.members
     members-are since e h =
         rw (visit-is, code_is) (members-by q reading state_of s.chained (entry_by s visits) found (is_link q s.next) since e h)
-
--- the controls' settings and counts after a unit are the same wherever it leaves the walk
-counts-left : (last : Bool) (e : Ending) (at : WalkState) (stop : OptionIntervention) → counts_in (left_by last e at stop) ≡ at.counts
-counts-left true e at stop = refl
-counts-left false e at stop = refl
-
-pub counts-under : (mode : RuleEngineMode) (q : Given) (unit : List ℕ) (at : WalkState) (gave : UnitOutcome) (counts : ControlCounts)
-    → counts_in (left_under mode q unit at gave counts) ≡ counts
-counts-under mode q unit at gave counts =
-    let e : Ending = end_by gave.disruptive mode in
-    counts-left (not (is_going e) || is_off mode) e (moved_by at gave counts) (intervention_at_end e (unit_intervention q unit))

@@ -10,10 +10,8 @@ use lib.Seq.{take_at}
 use lib.Dec.{ltb, eqb}
 use Rattle.reading.specs.declared.OptionIntervention.{OptionIntervention}
 use Rattle.reading.specs.Lists.{keep, over}
-use Rattle.reading.specs.Controls.{Controls, is_off}
+use Rattle.reading.specs.Controls.{is_off}
 use Rattle.reading.specs.declared.Report.{Report}
-use Rattle.reading.specs.declared.RemovedRules.{RemovedRules}
-use Rattle.reading.specs.RemovedCount.{none_removed, removed_rules}
 use Rattle.reading.specs.Records.{LentLists, data_from, data_list, data_words, journal_from, journal_list, journal_words}
 use Rattle.reading.specs.Call as reading
 use Rattle.reading.specs.Report.{report_by, report_of}
@@ -25,12 +23,10 @@ use Rattle.reading.specs.Refusals.{refused6, refused7, refused8, refused9}
 use Rattle.reading.specs.Outcome.{visits_of, outcome_of, at_free_end, if_none}
 use Rattle.reading.specs.Demand3.{Demand3}
 use Rattle.lists.proofs.Tests.{or-false}
-use Rattle.theorems.specs.Demands.{AsLent, demand3, refused-as-lent, idle-as-lent, refused-none-removed, removed-by-found, idle-removed}
+use Rattle.theorems.specs.Demands.{AsLent, demand3, refused-as-lent, idle-as-lent}
 use Rattle.theorems.specs.Demands.{none-held, or-none, refused-answer, idle-answer, accepted-answer}
 use Rattle.theorems.specs.WithinLimits.{Passed, passed, next_one, Free, not-seventh, ranges-given, targets-given}
 use Rattle.theorems.specs.WalkRanges.{accepted-form}
-use Rattle.theorems.specs.MergedRanges.{Merged}
-use Rattle.control.proofs.state.HeldLaws.{ranges-length}
 use Rattle.theorems.specs.WithinLimits.{accepted-visits, ids-within, data-within, visits-within, length-journal}
 use Rattle.lists.proofs.RecordLaws.{length-records}
 use Rattle.theorems.specs.Reported.{report-told}
@@ -61,16 +57,6 @@ few-actions q e =
     let p1 = or-false (rules || actions || markers) (ltb 65536 (length q.given.text)) e in
     let p2 = or-false (rules || actions) markers p1.0 in
     ltb-false 4096 (length q.given.actions) (or-false rules actions p2.0).1
-
-few-rules : (q : Call) → refused2 q ≡ false → rule_count q.given ≤ 512
-unfolding refused2
-few-rules q e =
-    let rules : Bool = ltb 512 (rule_count q.given) in
-    let actions : Bool = ltb 4096 (length q.given.actions) in
-    let markers : Bool = ltb 256 (length q.given.markers) in
-    let p1 = or-false (rules || actions || markers) (ltb 65536 (length q.given.text)) e in
-    let p2 = or-false (rules || actions) markers p1.0 in
-    ltb-false 512 (rule_count q.given) (or-false rules actions p2.0).0
 
 as-many-outcomes : (q : Call) → refused4 q ≡ false → length q.given.outcomes ≡ rule_count q.given
 unfolding refused4
@@ -162,19 +148,17 @@ module _ (g : Given) (t : Transaction) (l : LentLists) where
   abbrev entry : reading.Transaction
   entry = transaction_of t
 
-  abbrev as_lent : ℕ → RemovedRules → Phase
-  as_lent k removed = record { answer = answer_without k removed; transaction = t }
+  abbrev as_lent : ℕ → Phase
+  as_lent k = record { answer = answer_without k; transaction = t }
 
-  ran-as-lent : (k : ℕ) (removed : RemovedRules) → k ≡ (outcome_of q).answer → removed ≡ (outcome_of q).removed → AsLent q (outcome_of q) → visits_of q ≡ []
-      → Ran g t l (as_lent k removed) l
-  ran-as-lent k removed a m same v =
-      let o : outcome_found (as_lent k removed) l ≡ outcome_of q =
+  ran-as-lent : (k : ℕ) → k ≡ (outcome_of q).answer → AsLent q (outcome_of q) → visits_of q ≡ [] → Ran g t l (as_lent k) l
+  ran-as-lent k a same v =
+      let o : outcome_found (as_lent k) l ≡ outcome_of q =
       (λ i. record {
         answer = a i;
         error = sym (no-error q v) i;
         visits = sym same.visits i;
         report = sym same.report i;
-        removed = m i;
         transaction = sym same.transaction i;
         lists = sym same.lists i;
       }) in
@@ -195,25 +179,14 @@ module _ (g : Given) (t : Transaction) (l : LentLists) where
         demand3 = subst (λ x. Demand3 q x) (sym o) (demand3 q);
       }
 
-  pub ran-refused : (k : ℕ) → k ≡ refusal_of q → (k ≡ 0 → ⊥) → Ran g t l (as_lent k none_removed) l
+  pub ran-refused : (k : ℕ) → k ≡ refusal_of q → (k ≡ 0 → ⊥) → Ran g t l (as_lent k) l
   ran-refused k e h =
       let n : refusal_of q ≡ 0 → ⊥ = (λ z. h (e ∙ z)) in
-      ran-as-lent k none_removed (e ∙ sym (refused-answer q n)) (sym (refused-none-removed q n)) (refused-as-lent q n) (refused-visits q n)
+      ran-as-lent k (e ∙ sym (refused-answer q n)) (refused-as-lent q n) (refused-visits q n)
 
-  -- an accepted call has at most 512 rules, and controls that refusal 3 does not meet
-  pub rules-few : refusal_of q ≡ 0 → rule_count g ≤ 512
-  rules-few e = few-rules q (passed q e).second
-
-  pub ranges-few : refusal_of q ≡ 0 → t.controls.ranges ≤ 256
-  ranges-few e = omega (arith, ranges-given q e, ranges-length t.controls)
-
-  pub ranges-good : refusal_of q ≡ 0 → Merged (controls_of t.controls).ranges
-  ranges-good e = accepted-form q e
-
-  pub ran-idle : (removed : RemovedRules) → removed ≡ removed_rules g.rules (controls_of t.controls).ranges → refusal_of q ≡ 0 → nothing_to_do g entry ≡ true
-      → Ran g t l (as_lent 0 removed) l
-  ran-idle removed m e h =
-      ran-as-lent 0 removed (sym (idle-answer q e h)) (m ∙ sym (idle-removed q e h)) (idle-as-lent q e h) (accepted-visits q e ∙ walk-by g entry true h)
+  pub ran-idle : refusal_of q ≡ 0 → nothing_to_do g entry ≡ true → Ran g t l (as_lent 0) l
+  ran-idle e h =
+      ran-as-lent 0 (sym (idle-answer q e h)) (idle-as-lent q e h) (accepted-visits q e ∙ walk-by g entry true h)
 
   module _ (e : refusal_of q ≡ 0) (h : nothing_to_do g entry ≡ false) where
     walk_is : walk_of g entry ≡ visits_from g t
@@ -231,7 +204,6 @@ module _ (g : Given) (t : Transaction) (l : LentLists) where
         let p : Passed q = passed q e in
         let f : Free q = not-seventh q p.seventh in
         record {
-          rules = few-rules q p.second;
           outcomes = as-many-outcomes q p.fourth;
           actions = few-actions q p.second;
           digested = coded;
@@ -297,12 +269,11 @@ module _ (g : Given) (t : Transaction) (l : LentLists) where
             length-data-list l.entries,
           ))
 
-      -- with the report that the journal tells, and the removed rules that the ranges found tell
-      module _ (told : Report) (told_is : told ≡ report_of g (journal_list (take (2 * r.answer.visits) l'.journal)))
-          (gone : RemovedRules) (gone-is : gone ≡ removed_rules g.rules (controls_of r.transaction.controls).ranges) where
+      -- with the report that the journal tells
+      module _ (told : Report) (told_is : told ≡ report_of g (journal_list (take (2 * r.answer.visits) l'.journal))) where
         abbrev reported : Phase
         reported = record {
-          answer = record { answer = r.answer.answer; error = r.answer.error; visits = r.answer.visits; report = told; removed = gone };
+          answer = record { answer = r.answer.answer; error = r.answer.error; visits = r.answer.visits; report = told };
           transaction = r.transaction;
         }
 
@@ -326,8 +297,6 @@ module _ (g : Given) (t : Transaction) (l : LentLists) where
             data_is ∙ ap (λ (m : List Visit). at_free_end t.entries (data_list l.entries) (data_of g m)) back in
             let controls : controls_of r.transaction.controls ≡ (outcome_of q).transaction.controls =
             w.controls.meaning ∙ sym controls-are in
-            let removed : gone ≡ (outcome_of q).removed =
-            gone-is ∙ (ap (λ (c : Controls). removed_rules g.rules c.ranges) controls ∙ sym (removed-by-found q e)) in
             let allowed : r.transaction.allowed ≡ (outcome_of q).transaction.allowed =
             w.allowed ∙ (ap allowed_by back ∙ ap (λ (x : Bool). x || allowed_by (visits_of q)) (sym y.unallowed)) in
             let stop : r.transaction.intervention ≡ (outcome_of q).transaction.intervention =
@@ -342,7 +311,6 @@ module _ (g : Given) (t : Transaction) (l : LentLists) where
               error = error i;
               visits = visits i;
               report = report i;
-              removed = removed i;
               transaction = record {
                 controls = controls i;
                 allowed = allowed i;

@@ -1,5 +1,5 @@
 -- What the tests of the phase call say of its refusals, and that nothing is to do, from what its callees leave.
-use Prim.Native.Nat.{ℕ, ◌*◌, ◌/◌, ◌≤◌, min}
+use Prim.Native.Nat.{ℕ, ◌*◌, ◌/◌, ◌≤◌}
 use mathlib.Core.Path.{◌≡◌, refl, sym, ap, subst, ◌∙◌}
 use mathlib.Core.Bool.{Bool, true, false, cond, ◌||◌}
 use mathlib.Core.List.{List}
@@ -8,12 +8,10 @@ use lib.Dec.{eqb}
 use Rattle.reading.specs.declared.RuleEngineMode.{RuleEngineMode}
 use Rattle.reading.specs.Lists.{any, over}
 use Rattle.reading.specs.Numbers.{mode_of_number}
-use Rattle.reading.specs.Controls.{is_off, mode_or, bad_controls, range_list}
+use Rattle.reading.specs.Controls.{is_off, mode_or, bad_controls}
 use Rattle.reading.specs.Records.{rule_list, action_list, marker_list, journal_list, given_of, LentLists}
 use Rattle.reading.specs.declared.CallSettings.{CallSettings}
 use Rattle.reading.specs.declared.Report.{Report}
-use Rattle.reading.specs.declared.RemovedRules.{RemovedRules}
-use Rattle.reading.specs.RemovedCount.{none_removed, removed_rules}
 use Rattle.reading.specs.Report.{none_unsupported, report_with, report_of}
 use Rattle.reading.specs.Call.{Given, Call}
 use Rattle.reading.specs.Walk.{is_stopped, nothing_to_do}
@@ -24,11 +22,6 @@ use Rattle.control.specs.ControlsStruct.{controls_of}
 use Rattle.control.proofs.state.HeldLaws.{ranges-length, targets-length}
 use Rattle.apply.specs.Codes.{codes_of, is_reason}
 use Rattle.report.specs.ByCodes.{unsupported_by_codes}
-use Rattle.report.specs.ByBits.{removed_by_bits}
-use Rattle.report.proofs.removed.Told as bits
-use Rattle.removal.specs.Bits.{bits_of, marked}
-use Rattle.removal.specs.Renewal.{held_hits, Agrees}
-use Rattle.removal.proofs.renew.RenewLaws.{made_each, made-long}
 use Rattle.report.proofs.unsupported.Coded.{told-where}
 use Rattle.refusals.specs.Totals.{limit_refusal}
 use Rattle.refusals.proofs.totals.Refused.{limit_is, codes-fit, codes-front}
@@ -38,7 +31,7 @@ use Rattle.transaction.specs.declared.types.Transaction.{Transaction}
 use Rattle.transaction.specs.declared.types.Phase.{Phase}
 use Rattle.transaction.specs.RunPhase.{call_of, answer_without, Ran}
 use Rattle.transaction.specs.WalkRules.{fresh, Ready, Walked}
-use Rattle.transaction.proofs.Promise.{few-of-seven, seven-first, past-seven, ran-refused, rules-few, ranges-few, ranges-good, ran-idle}
+use Rattle.transaction.proofs.Promise.{few-of-seven, seven-first, past-seven, ran-refused, ran-idle}
 use Rattle.transaction.proofs.Promise.{lists_of_walk, busy, fresh-is, ready_of, visited-within, ran-walked}
 use Rattle.transaction.proofs.Promise.{length-data-list, length-journal-list}
 
@@ -135,32 +128,18 @@ module _ (g : Lent) where
   abbrev RanAs : Phase → Type 0
   RanAs r = Ran (given_in g) g.t g.lists r g.lists
 
-  abbrev as_lent : ℕ → RemovedRules → Phase
-  as_lent k removed = record { answer = answer_without k removed; transaction = g.t }
+  abbrev as_lent : ℕ → Phase
+  as_lent k = record { answer = answer_without k; transaction = g.t }
 
-  module _ (k : ℕ) (r : Phase) (e : r ≡ as_lent k none_removed) where
+  module _ (k : ℕ) (r : Phase) (e : r ≡ as_lent k) where
     pub ran-by : k ≡ refusal_of q → (k ≡ 0 → ⊥) → RanAs r
     ran-by a n = subst (λ (x : Phase). RanAs x) (sym e) (ran-refused (given_in g) g.t g.lists k a n)
 
     pub ran_first : k ≡ first_of_seven q → (k ≡ 0 → ⊥) → RanAs r
     ran_first a n = ran-by (a ∙ sym (seven-first q (λ z. n (a ∙ z)))) n
 
-  -- the bits made of the ranges found tell what these do
-  made_told : (removed : RemovedRules) → refusal_of q ≡ 0
-      → removed ≡ removed_by_bits (marked (held_hits (rule_list g.rules) (min g.t.controls.ranges 256) g.t.controls.starts g.t.controls.ends) 0 (replicate 512 false))
-      → removed ≡ removed_rules (rule_list g.rules) (controls_of g.t.controls).ranges
-  unfolding controls_of
-  made_told removed a e =
-      let c = g.t.controls in
-      e ∙ bits.told-bits (rule_list g.rules) (range_list c.ranges c.starts c.ends) _ (rules-few (given_in g) g.t g.lists a)
-      (made-long (rule_list g.rules) (min c.ranges 256) c.starts c.ends)
-      (made_each (rule_list g.rules) c.ranges c.starts c.ends (ranges-good (given_in g) g.t g.lists a) (ranges-few (given_in g) g.t g.lists a))
-
-  pub ran-nothing : (r : Phase) (removed : RemovedRules) → r ≡ as_lent 0 removed
-      → removed ≡ removed_by_bits (marked (held_hits (rule_list g.rules) (min g.t.controls.ranges 256) g.t.controls.starts g.t.controls.ends) 0 (replicate 512 false))
-      → refusal_of q ≡ 0 → nothing_to_do q.given q.transaction ≡ true → RanAs r
-  ran-nothing r removed e m a h =
-      subst (λ (x : Phase). RanAs x) (sym e) (ran-idle (given_in g) g.t g.lists removed (made_told removed a m) a h)
+  pub ran-nothing : (r : Phase) → r ≡ as_lent 0 → refusal_of q ≡ 0 → nothing_to_do q.given q.transaction ≡ true → RanAs r
+  ran-nothing r e a h = subst (λ (x : Phase). RanAs x) (sym e) (ran-idle (given_in g) g.t g.lists a h)
 
   -- the walk: what it asks, and what is promised of what it leaves
   module _ (a : refusal_of q ≡ 0) (h : nothing_to_do q.given q.transaction ≡ false) where
@@ -180,13 +159,9 @@ module _ (g : Lent) where
       visited-at = visited-within (given_in g) g.t g.lists a h r l walked
 
       pub ran-at : (told : Report) → told ≡ report_of (given_in g) (journal_list (take (2 * r.answer.visits) l.journal))
-          → (removed : RemovedRules) (words : List ℕ) → removed ≡ removed_by_bits (bits_of 64 words)
-          → Agrees (rule_list g.rules) (controls_of r.transaction.controls).ranges words
           → Ran (given_in g) g.t g.lists
           (record {
-            answer = record { answer = r.answer.answer; error = r.answer.error; visits = r.answer.visits; report = told; removed = removed };
+            answer = record { answer = r.answer.answer; error = r.answer.error; visits = r.answer.visits; report = told };
             transaction = r.transaction;
           }) l
-      ran-at told e removed words m agrees =
-          ran-walked (given_in g) g.t g.lists a h r l walked told e removed
-          (m ∙ bits.told (rule_list g.rules) (controls_of r.transaction.controls).ranges words (rules-few (given_in g) g.t g.lists a) agrees)
+      ran-at told e = ran-walked (given_in g) g.t g.lists a h r l walked told e

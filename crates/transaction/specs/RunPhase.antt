@@ -1,6 +1,5 @@
 -- What the phase call is given and what it leaves, for the structs and the lists of numbers of the code.
 use Rattle.std.specs.Prelude.{ℕ, ◌*◌, ◌≡◌}
-use Rattle.reading.specs.declared.RemovedRules.{RemovedRules}
 use Rattle.reading.specs.Lists.{over}
 use Rattle.reading.specs.Records.{LentLists, lists_of, data_words, journal_words}
 use Rattle.reading.specs.Call.{Given, Call}
@@ -31,8 +30,8 @@ abbrev pub call_of : Given → Transaction → LentLists → Call
 call_of g t l = record { given = g; transaction = transaction_of t; lists = lists_of l }
 
 -- the answer of a call without a visit
-abbrev pub answer_without : ℕ → RemovedRules → Answer
-answer_without n removed = record { answer = n; error = 0; visits = 0; report = no_report; removed = removed }
+abbrev pub answer_without : ℕ → Answer
+answer_without n = record { answer = n; error = 0; visits = 0; report = no_report }
 
 -- what is found after the call
 abbrev pub outcome_found : Phase → LentLists → Outcome
@@ -41,7 +40,6 @@ outcome_found r l = record {
   error = r.answer.error;
   visits = r.answer.visits;
   report = r.answer.report;
-  removed = r.answer.removed;
   transaction = transaction_of r.transaction;
   lists = lists_of l;
 }

@@ -10,7 +10,6 @@ use Rattle.reading.specs.Units.{unit_intervention}
 use Rattle.reading.specs.Directive.{range_count, target_count}
 use Rattle.reading.specs.Walk.{Visit, walk, start, journal_of, closed_in, ids_of, data_of, controls_after, allowed_by, intervention_by, answer_by, error_index_by}
 use Rattle.reading.specs.Report.{no_report}
-use Rattle.reading.specs.RemovedCount.{none_removed}
 use Rattle.reading.specs.Outcome.{at_free_end}
 use Rattle.theorems.specs.MergedRanges.{Merged}
 use Rattle.theorems.specs.WithinLimits.{units_give}
@@ -54,7 +53,6 @@ visits_from g t = walk (rule_count g) g (start (transaction_of t))
 
 -- an accepted call with something to do: what the walk needs of it. `codes` are the actions' codes.
 pub record Ready (g : Given) (t : Transaction) (codes : List ℕ) (l : WalkLists) : Type 0 where
-  pub rules : rule_count g ≤ 512
   pub outcomes : length g.outcomes ≡ rule_count g
   pub actions : length g.actions ≤ 4096
   pub digested : codes ≡ over (replicate 4096 0) (codes_of g.text g.actions)
@@ -94,7 +92,7 @@ is_allows Ending.Stops = false
 -- the answer of a walk that ended so at the rule `last`, but for what is told besides
 abbrev pub ended_by : Ending → ℕ → ℕ → ℕ → ℕ → OptionIntervention → Controls → Phase
 ended_by e last visits ids entries stop c = record {
-  answer = record { answer = cond (is_errs e) 10 0; error = cond (is_errs e) last 0; visits = visits; report = no_report; removed = none_removed };
+  answer = record { answer = cond (is_errs e) 10 0; error = cond (is_errs e) last 0; visits = visits; report = no_report };
   transaction = record { controls = c; allowed = is_allows e; intervention = stop; ids = ids; entries = entries };
 }
 
@@ -155,11 +153,6 @@ abbrev pub left_under : RuleEngineMode → Given → List ℕ → WalkState → 
 left_under mode g unit at gave counts =
     let e = end_by gave.disruptive mode in
     left_by (not (is_going e) || is_off mode) e (moved_by at gave counts) (intervention_at_end e (unit_intervention g unit))
-
--- the settings and counts of the controls after a unit, wherever it leaves the walk
-abbrev pub counts_in : AfterUnit → ControlCounts
-counts_in (AfterUnit.GoesOn at) = at.counts
-counts_in (AfterUnit.Ends end) = end.at.counts
 
 -- what closing a unit leaves: `gave` is what the unit gave, and `held` the settings and counts after its controls
 pub record UnitClosed (g : Given) (codes : List ℕ) (at : WalkState) (ids entries journal starts ends phases positions : List ℕ) (r : AfterUnit)

@@ -13,8 +13,8 @@ use control::fields;
 use control::state::{Controls, Settings};
 use intervention::decide;
 use intervention::decide::Ending;
-use reading::{OptionIntervention, RemovedRules, RuleEngineMode, limits};
-use report::{removed, verdicts};
+use reading::{OptionIntervention, RuleEngineMode, limits};
+use report::verdicts;
 use unit::close::UnitOutcome;
 
 // The mode under the settings.
@@ -93,8 +93,8 @@ fn gives_allow(ending: Ending) -> bool
 }
 
 // The answer of a call without a visit, refused or with nothing to do.
-pub fn unvisited(answer: u64, removed: RemovedRules) -> Answer
-    ensures { result ≡ answer_without answer removed }
+pub fn unvisited(answer: u64) -> Answer
+    ensures { result ≡ answer_without answer }
 {
     let report = verdicts::no_report();
     Answer {
@@ -102,11 +102,10 @@ pub fn unvisited(answer: u64, removed: RemovedRules) -> Answer
         error: 0,
         visits: 0,
         report,
-        removed,
     }
 }
 
-// The answer of a walk that ended so, but for what is told besides and for the removed rules, the controls from their parts. After an error the walk stands at the rule that had it. The
+// The answer of a walk that ended so, but for what is told besides, the controls from their parts. After an error the walk stands at the rule that had it. The
 // transaction had no allow and no intervention.
 pub fn ended(
     end: End,
@@ -126,7 +125,6 @@ pub fn ended(
         error: error_of(ending, at.state.next),
         visits: at.visits as u64,
         report,
-        removed: removed::none(),
     };
     let allowed = gives_allow(ending);
     let h = at.counts;

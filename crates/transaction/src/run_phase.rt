@@ -9,18 +9,16 @@ use crate::types::{Phase, Transaction};
 use crate::{outcome, walk};
 use apply::codes;
 use control::fields;
-use reading::{CallSettings, RemovedRules, limits, widths};
+use reading::{CallSettings, limits, widths};
 use refusals::first::{Room, Sizes};
 use refusals::{first, totals};
-use removal::bits;
-use removal::bits::RemovalBits;
-use report::{removed, verdicts};
+use report::verdicts;
 
 // An answer that leaves the transaction as it was.
-fn as_lent(answer: u64, removed: RemovedRules, t: Transaction) -> Phase
-    ensures { result ≡ record { answer = answer_without answer removed; transaction = t } }
+fn as_lent(answer: u64, t: Transaction) -> Phase
+    ensures { result ≡ record { answer = answer_without answer; transaction = t } }
 {
-    let answer = outcome::unvisited(answer, removed);
+    let answer = outcome::unvisited(answer);
     Phase {
         answer,
         transaction: t,
@@ -73,25 +71,22 @@ pub fn run_phase(
     };
     let refusal = first::first_refusal(call, rules, actions, markers, text, outcomes, sizes, room);
     if refusal != 0 {
-        return as_lent(refusal, removed::none(), t);
+        return as_lent(refusal, t);
     }
     let mut codes = [0u16; limits::ACTIONS];
     let some_unsupported = codes::write_codes(actions, text, &mut codes[0..]);
     let used = actions.len() / widths::ACTION;
     let limit = totals::limit_refusal(rules, &codes[0..used], ranges, targets);
     if limit != 0 {
-        return as_lent(limit, removed::none(), t);
+        return as_lent(limit, t);
     }
     let settings = t.controls.settings;
     let stop = t.intervention;
     let ruleset_mode = fields::mode_of_number(call.mode);
     let n = rules.len() / widths::RULE;
     if outcome::is_idle(t.allowed, stop, ruleset_mode, settings, n) {
-        let starts = t.controls.starts;
-        let ends = t.controls.ends;
-        return as_lent(0, removed::tell_held(rules, &starts, &ends, ranges), t);
+        return as_lent(0, t);
     }
-    let mut words = [0u64; bits::WORDS];
     let mut p = walk::walk_rules(
         t,
         call,
@@ -104,7 +99,6 @@ pub fn run_phase(
         ids,
         entries,
         journal,
-        &mut words,
     );
     let visited = widths::JOURNAL_ENTRY * p.answer.visits as usize;
     let mut answer = p.answer;
@@ -115,8 +109,6 @@ pub fn run_phase(
         some_unsupported,
     );
     answer.report = report;
-    let removed = removed::tell_removed(RemovalBits { words });
-    answer.removed = removed;
     p.answer = answer;
     p
 }

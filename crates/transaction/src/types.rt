@@ -3,7 +3,7 @@
 use apply::append::ControlCounts;
 use control::state::Controls;
 use intervention::decide::Ending;
-use reading::{OptionIntervention, RemovedRules, Report};
+use reading::{OptionIntervention, Report};
 use unit::visit::State;
 
 // A transaction: the controls, the allowed flag, an intervention or none, and how many matched ids and data entries are in use.
@@ -17,7 +17,7 @@ pub struct Transaction {
 }
 
 // What a phase call answers, the same from the walk to a host: 0, 10, or the number of a refusal; the index of the rule that had
-// the error, with 10; how many entries the journal holds; what is told besides; and which rules are removed at the end.
+// the error, with 10; how many entries the journal holds; and what is told besides.
 #[repr(C)]
 #[derive(Drop)]
 pub struct Answer {
@@ -29,8 +29,6 @@ pub struct Answer {
     pub visits: u64,
     // What is told besides.
     pub report: Report,
-    // How many rules are removed by the ranges held at the end, and the first of them; none after a refusal.
-    pub removed: RemovedRules,
 }
 
 // The answer, and the transaction after the call.

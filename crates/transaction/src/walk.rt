@@ -1,16 +1,15 @@
 // The walk over a phase's rules: visit by visit, and what each closed unit gives.
-ghost use Rattle.std.specs.Prelude.{◌≡◌, false, cond, ℕ, ◌+◌, ◌*◌, ◌^◌, ◌≤◌, ◌<◌, List, [], ◌∷◌, length, get_or, replicate};
+ghost use Rattle.std.specs.Prelude.{◌≡◌, cond, ℕ, ◌+◌, ◌*◌, ◌^◌, ◌≤◌, ◌<◌, min, List, [], ◌∷◌, length, get_or};
 ghost use Rattle.reading.specs.Numbers.{verdict_number, mode_of_number};
-ghost use Rattle.reading.specs.Controls.{mode_or, range_list};
-ghost use Rattle.control.specs.ControlsStruct.{controls_of};
-ghost use Rattle.removal.specs.Bits.{bits_of};
-ghost use Rattle.removal.specs.Renewal.{Agrees, Renewed};
+ghost use Rattle.reading.specs.Controls.{mode_or};
+ghost use Rattle.control.specs.Halving.{found_by_halving};
+ghost use Rattle.reading.specs.Call.{no_rule, record_id};
 ghost use Rattle.reading.specs.Records.{rule_list, marker_list, journal_list, matched_in, given_of};
 ghost use Rattle.reading.specs.declared.Marker.{Marker};
 ghost use Rattle.reading.specs.Walk.{verdict_by};
 ghost use Rattle.reading.specs.Outcome.{at_free_end};
 ghost use Rattle.unit.specs.VisitRule.{found_at};
-ghost use Rattle.transaction.specs.WalkRules.{walk_lists, fresh, Ready, Walked, start_of, Room, left_under, counts_in, UnitClosed};
+ghost use Rattle.transaction.specs.WalkRules.{walk_lists, fresh, Ready, Walked, start_of, Room, left_under, UnitClosed};
 
 use crate::outcome;
 use crate::types::{AfterUnit, End, Phase, Transaction, WalkState};
@@ -20,30 +19,29 @@ use control::fields;
 use intervention::build;
 use intervention::decide::Ending;
 use reading::{CallSettings, OptionIntervention, Verdict, limits, widths};
-use removal::{bits, renew};
-use ruleset::rules;
 use unit::close::UnitOutcome;
 use unit::visit::{State, VisitOutcome};
 use unit::{close, visit};
 
-// Visits the rule that the walk stands at, by its removal bit, and writes it after the journal's entries.
-fn visit_next(
+// Visits the rule that the walk stands at, under the held ranges, which have the merged form, and writes it after the journal's entries.
+fn visit_next<'a>(
     at: WalkState,
     rules: &[u64],
     outcomes: &[u8],
-    words: &[u64; bits::WORDS],
+    starts: &'a [u64; limits::RANGES],
+    ends: &'a [u64; limits::RANGES],
     journal: &mut [u64],
 ) -> VisitOutcome
     requires { 2 * at.visits + 2 ≤ length journal.old }
     ensures value { result ≡ found_at (rule_list rules.now) at.state at.visits
-        (cond (get_or (bits_of 64 words.now) at.state.next false) Verdict.Removed (verdict_by (get_or outcomes.now at.state.next 0))) }
+        (cond (found_by_halving (min at.counts.ranges 256) starts.now ends.now (record_id (get_or (rule_list rules.now) at.state.next no_rule)))
+        Verdict.Removed (verdict_by (get_or outcomes.now at.state.next 0))) }
     ensures journal_after { journal.new ≡ at_free_end (2 * at.visits) journal.old (at.state.next ∷ verdict_number result.verdict ∷ []) }
 {
     let state = at.state;
     let visits = at.visits;
     let next = state.next;
-    let removed = bits::is_set(words, next);
-    let found = visit::verdict(removed, rules::outcome_at(outcomes, next));
+    let found = visit::verdict_at(rules, outcomes, next, starts, ends, at.counts.ranges);
     let place = widths::JOURNAL_ENTRY * visits;
     journal[place] = next as u64;
     journal[place + 1] = visit::verdict_number(found);
@@ -92,7 +90,7 @@ fn leave_unit(
 }
 
 // Closes the unit whose last rule was visited: its id and data entries are written at the free ends of their lists, and its
-// controls apply, with the removal bits renewed where these add ranges; then its flow and its disruptive action say where the walk is left.
+// controls apply; then its flow and its disruptive action say where the walk is left.
 fn finish_unit(
     at: WalkState,
     call: CallSettings,
@@ -109,14 +107,11 @@ fn finish_unit(
     ends: &mut [u64; limits::RANGES],
     phases: &mut [u64; limits::TARGETS],
     positions: &mut [u64; limits::TARGETS],
-    words: &mut [u64; bits::WORDS],
 ) -> AfterUnit
     requires { Room at ids.old entries.old journal.now }
-    ensures unit_closed { UnitClosed (given_of call rules.now actions.now (marker_list markers.now) text.now outcomes.now)
+    ensures { UnitClosed (given_of call rules.now actions.now (marker_list markers.now) text.now outcomes.now)
         codes.now at ids.old entries.old journal.now starts.old ends.old phases.old positions.old
         result ids.new entries.new starts.new ends.new phases.new positions.new }
-    ensures renewed { Renewed (rule_list rules.now) (range_list at.counts.ranges starts.old ends.old) words.old
-        (range_list (counts_in result).ranges starts.new ends.new) words.new }
 {
     let from = widths::JOURNAL_ENTRY * at.state.first;
     let to = widths::JOURNAL_ENTRY * at.visits;
@@ -138,7 +133,6 @@ fn finish_unit(
     let counts = at.counts;
     let h = run::unit_controls(
         counts, members, rules, actions, text, codes, call.phase, starts, ends, phases, positions,
-        words,
     );
     leave_unit(at, u, h, call, members, rules, actions)
 }
@@ -177,8 +171,8 @@ fn end_at(ending: Ending, at: WalkState) -> End
     }
 }
 
-// The walk from the first rule on, where nothing stands against it. The controls' arrays are locals, lent where a closed unit changes
-// them; the struct is made up again at the end. Whether a rule is removed is read from its bit: no bit is set yet.
+// The walk from the first rule on, where nothing stands against it. The controls' arrays are locals, lent where they are read
+// and where a closed unit changes them; the struct is made up again at the end.
 pub fn walk_rules(
     t: Transaction,
     call: CallSettings,
@@ -191,23 +185,19 @@ pub fn walk_rules(
     ids: &mut [u64],
     entries: &mut [u64],
     journal: &mut [u64],
-    words: &mut [u64; bits::WORDS],
 ) -> Phase
-    requires { Ready (given_of call rules.now actions.now (marker_list markers.now) text.now outcomes.now) (fresh t) codes.now (walk_lists ids.old entries.old journal.old)
-        × (bits_of 64 words.old ≡ replicate 512 false) }
-    ensures walked { Walked (given_of call rules.now actions.now (marker_list markers.now) text.now outcomes.now) (fresh t)
+    requires { Ready (given_of call rules.now actions.now (marker_list markers.now) text.now outcomes.now) (fresh t) codes.now (walk_lists ids.old entries.old journal.old) }
+    ensures { Walked (given_of call rules.now actions.now (marker_list markers.now) text.now outcomes.now) (fresh t)
         (walk_lists ids.old entries.old journal.old) result (walk_lists ids.new entries.new journal.new) }
-    ensures agrees { Agrees (rule_list rules.now) (controls_of result.transaction.controls).ranges words.new }
 {
     let mut starts = t.controls.starts;
     let mut ends = t.controls.ends;
     let mut phases = t.controls.phases;
     let mut positions = t.controls.positions;
-    renew::mark_held(rules, &starts, &ends, t.controls.ranges, words);
     let mut at = start(t);
     let n = rules.len() / widths::RULE;
     while at.state.next < n {
-        let v = visit_next(at, rules, outcomes, words, journal);
+        let v = visit_next(at, rules, outcomes, &starts, &ends, journal);
         at.visits += 1;
         if visit::is_error(v) {
             return outcome::ended(end_at(Ending::Errs, at), starts, ends, phases, positions);
@@ -233,7 +223,6 @@ pub fn walk_rules(
             &mut ends,
             &mut phases,
             &mut positions,
-            words,
         );
         at = match left {
             AfterUnit::GoesOn(next) => next,

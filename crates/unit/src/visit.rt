@@ -1,12 +1,15 @@
 // One visit by value (engine/transaction.rs, engine/chain.rs): what is found of a rule, what becomes of the open chain, and
 // where the walk goes on.
-ghost use Rattle.std.specs.Prelude.{◌≡◌, Bool, false, cond, ℕ};
+ghost use Rattle.std.specs.Prelude.{◌≡◌, Bool, false, cond, ℕ, min, get_or};
+ghost use Rattle.reading.specs.Call.{no_rule, record_id};
 ghost use Rattle.reading.specs.Numbers.{verdict_number};
 ghost use Rattle.reading.specs.Records.{rule_list};
 ghost use Rattle.reading.specs.Walk.{verdict_by};
+ghost use Rattle.control.specs.Halving.{found_by_halving};
 ghost use Rattle.unit.specs.VisitRule.{entry_by, passed, found_by, found_at, is_error};
 
-use reading::{Verdict, widths};
+use control::ranges;
+use reading::{Verdict, limits, widths};
 use ruleset::rules;
 
 // Where the walk stands. `next` is the index that it goes on with, so a pending skip is part of it. `first` is the place in
@@ -27,8 +30,8 @@ pub struct VisitOutcome {
     pub after: State,
 }
 
-// What is found of a rule. A removed rule's outcome is not looked at.
-pub fn verdict(removed: bool, outcome: u8) -> Verdict
+// A removed rule's outcome is not looked at.
+fn verdict(removed: bool, outcome: u8) -> Verdict
     ensures { result ≡ cond removed Verdict.Removed (verdict_by outcome) }
 {
     if removed {
@@ -41,6 +44,23 @@ pub fn verdict(removed: bool, outcome: u8) -> Verdict
         return Verdict::Error;
     }
     Verdict::Matched
+}
+
+// What is found of the rule at an index, under the first `count` held ranges, which have the merged form.
+pub fn verdict_at<'a>(
+    rules: &[u64],
+    outcomes: &[u8],
+    index: usize,
+    starts: &'a [u64; limits::RANGES],
+    ends: &'a [u64; limits::RANGES],
+    count: usize,
+) -> Verdict
+    ensures { result ≡ cond (found_by_halving (min count 256) starts.now ends.now (record_id (get_or (rule_list rules.now) index no_rule)))
+        Verdict.Removed (verdict_by (get_or outcomes.now index 0)) }
+{
+    let id = rules::rule_id(rules::rule_at(rules, index));
+    let removed = ranges::is_removed(starts, ends, count, id);
+    verdict(removed, rules::outcome_at(outcomes, index))
 }
 
 // The number of a verdict in the journal.

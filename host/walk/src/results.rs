@@ -1,8 +1,8 @@
 //! What a call and the directive reader gave, as the case format has it.
 
 use case_format::{
-    Answer, BodyProcessor, CallResult, DirectiveAnswer, Intervention, Mode, Removed, Stop,
-    Unsupported, UnsupportedReason, Verdict,
+    Answer, BodyProcessor, CallResult, DirectiveAnswer, Intervention, Mode, Stop, Unsupported,
+    UnsupportedReason, Verdict,
 };
 use tivembo::{Directive, Phase, Refusal, RuleSets};
 
@@ -30,7 +30,6 @@ pub fn result(walked: &Walked) -> CallResult {
             Some(new) => Stop::New(Box::new(intervention(&new, &walked.texts()))),
         },
         unsupported: phase.and_then(unsupported),
-        removed: Some(phase.map_or(Removed::default(), removed)),
     }
 }
 
@@ -65,14 +64,6 @@ fn unsupported(phase: &Phase) -> Option<Unsupported> {
         rule: found.rule as u64,
         reason: reason(found.reason),
     })
-}
-
-fn removed(phase: &Phase) -> Removed {
-    let found = phase.removed();
-    Removed {
-        count: found.count as u64,
-        first: found.first.map(|first| first as u64),
-    }
 }
 
 fn reason(reason: tivembo::UnsupportedReason) -> UnsupportedReason {

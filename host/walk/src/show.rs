@@ -41,28 +41,9 @@ pub fn print_call(out: &mut impl Write, walked: &Walked) -> Result<()> {
         }
     }
     print_field(out, "controls", &controls(walked, &found))?;
-    if let Some(removed) = removed(walked) {
-        print_field(out, "removed", &removed)?;
-    }
     print_field(out, "request", &request(walked, &found))?;
     let first = passed_over(walked);
     first.map_or(Ok(()), |first| print_field(out, "ctl", &first))
-}
-
-/// How many rules the ranges held at the end remove, and the first of them, where there is one.
-fn removed(walked: &Walked) -> Option<String> {
-    let found = walked.result.as_ref().ok()?.removed();
-    let (count, first, rules) = (found.count, found.first?, &walked.call.rules);
-    let (rule, of) = (rule_name(&rules[first]), counted(rules.len()));
-    Some(format!(
-        "{count} of {of} at the end, the first at {first}, {rule}"
-    ))
-}
-
-/// A number of rules in words.
-fn counted(rules: usize) -> String {
-    let word = if rules == 1 { "rule" } else { "rules" };
-    format!("{rules} {word}")
 }
 
 /// Why a call was refused. Of ranges that are not merged the first that is wrong is named.
@@ -163,7 +144,8 @@ fn visits(report: Report, rules: usize) -> String {
     } else {
         format!(": {}", told.join(", "))
     };
-    format!("{all} of {}{told}", counted(rules))
+    let word = if rules == 1 { "rule" } else { "rules" };
+    format!("{all} of {rules} {word}{told}")
 }
 
 fn print_rules(out: &mut impl Write, walked: &Walked, phase: &Phase) -> Result<()> {

@@ -34,11 +34,9 @@ fn out(output: &Output) -> &str {
     std::str::from_utf8(&output.stdout).expect("plain text")
 }
 
-/// The results without the removed visits, which the Rust does not evaluate, and without the lines `removed`, which it does not
-/// have: so expectations that the Rust shares have neither.
+/// The results without the removed visits, which the Rust does not evaluate and expectations do not have.
 fn without_removed(results: &str) -> String {
     let keep = |line: &str| match line.strip_prefix("visits") {
-        _ if line.starts_with("removed ") => String::new(),
         Some(visits) => {
             let visits = visits
                 .split(' ')
@@ -62,31 +60,6 @@ fn c1_to_c16() {
     assert_eq!(without_removed(out(&output)), expected);
 }
 
-/// Of C1 to C16, three rules are removed in C13 and one in C10. Each line stands below the name of its case.
-#[test]
-fn removed_rules_of_c1_to_c16() {
-    let output = program()
-        .arg("--results")
-        .arg(cases("c1-c16.cases"))
-        .output();
-    let output = output.expect("the program starts");
-    let mut name = "";
-    let mut found = Vec::new();
-    for line in out(&output).lines() {
-        name = line.strip_prefix("case ").unwrap_or(name);
-        found.extend(line.strip_prefix("removed ").map(|told| (name, told)));
-    }
-    let removed = [
-        ("C10", "1 2"),
-        ("C13.action", "1 1"),
-        ("C13.942100", "1 0"),
-        ("C13.942999", "1 0"),
-    ];
-    let (some, none): (Vec<_>, Vec<_>) = found.iter().partition(|it| removed.contains(it));
-    assert_eq!((some, none.len()), (removed.to_vec(), 19));
-    assert!(none.iter().all(|(_, told)| *told == "0 -"), "{none:?}");
-}
-
 #[test]
 fn a_walk_shows_every_rule() {
     let output = program().arg(cases("c1-c16.cases")).output();
@@ -97,8 +70,6 @@ fn a_walk_shows_every_rule() {
         "  2  rule 42                                                  removed  in range 42-42, the chain stays open",
         "  3  rule 43                                                  matched  closes unit 1 3, stops",
         "  visits    4 of 4 rules: 3 matched, 1 removed",
-        "  removed   1 of 4 rules at the end, the first at 2, rule 42",
-        "  removed   1 of 1 rule at the end, the first at 0, rule 942999",
         "  visits    1 of 2 rules: 1 matched",
         "  visits    0 of 0 rules",
         "  request   stopped, status 403, ids 43 41",
@@ -129,7 +100,7 @@ fn every_field_of_an_intervention() {
         ctl "ruleRemoveTargetById" " 1 ; ARGS"
     "#;
     let output = walk(&["--results"], &one_rule(actions));
-    let results = "case X\ncall 1\nanswer 0\nvisits 0:matched\nids 5\ndata 5@0\nmode -\nbody-access -\nbody-processor -\nranges\ntargets \"1\";\"ARGS\"\nallowed no\nintervention status=302 drop=no url=\"http://x/\\\"\\\\\\x09\" log=\"m\" ids=5,6 phase=1 id=6 msg=\"m\" logdata=\"l\" rev=\"r\" ver=\"v\" severity=1 maturity=2 accuracy=3\nunsupported -\nremoved 0 -\nend\n";
+    let results = "case X\ncall 1\nanswer 0\nvisits 0:matched\nids 5\ndata 5@0\nmode -\nbody-access -\nbody-processor -\nranges\ntargets \"1\";\"ARGS\"\nallowed no\nintervention status=302 drop=no url=\"http://x/\\\"\\\\\\x09\" log=\"m\" ids=5,6 phase=1 id=6 msg=\"m\" logdata=\"l\" rev=\"r\" ver=\"v\" severity=1 maturity=2 accuracy=3\nunsupported -\nend\n";
     assert_eq!(out(&output), results);
 }
 
@@ -291,55 +262,6 @@ fn the_range_of_a_removed_rule() {
     assert_eq!(shown(&text, "controls"), ["controls  range 6-20"]);
 }
 
-/// A line of results for every call, a line of the walk where a rule is removed.
-#[track_caller]
-fn counts(text: &str, results: &[&str], story: &[&str]) {
-    let output = walk(&["--results"], text);
-    let lines = out(&output).lines();
-    let found = lines.filter_map(|line| line.strip_prefix("removed "));
-    assert_eq!(found.collect::<Vec<_>>(), results);
-    let lines = shown(text, "removed  ").into_iter();
-    let found = lines.map(|line| line.replace("removed   ", ""));
-    assert_eq!(found.collect::<Vec<_>>(), story);
-}
-
-#[test]
-fn removed_rules_are_counted() {
-    let own = [(5, "7"), (6, "5-6"), (7, "")];
-    counts(
-        &removing(&[], &own),
-        &["3 0"],
-        &["3 of 3 rules at the end, the first at 0, rule 5"],
-    );
-    counts(&removing(&[(8, 9)], &[(7, "")]), &["0 -"], &[]);
-    counts(&removing(&[(8, 9)], &[]), &["0 -"], &[]);
-    // Two calls of one case: the second by what the first one added, in rules of its own.
-    let later = removing(&[], &[(1, "2-3")]);
-    let later = later.replace("end\n", "call 3\nrule - matched\nrule 3 missed\nend\n");
-    counts(
-        &later,
-        &["0 -", "1 1"],
-        &["1 of 2 rules at the end, the first at 1, rule 3"],
-    );
-}
-
-/// Where there is nothing to do the ranges count that are found; a refused call has no line in the walk.
-#[test]
-fn removed_rules_of_calls_that_do_nothing() {
-    let text = removing(&[(5, 6)], &[(4, "4"), (5, ""), (6, "")]);
-    let line = "2 of 3 rules at the end, the first at 1, rule 5";
-    for entry in ["entry-allowed", "entry-stopped", "entry-mode Off"] {
-        let text = text.replace("call 2\n", &format!("{entry}\ncall 2\n"));
-        counts(&text, &["2 1"], &[line]);
-    }
-    let off = text.replace("mode On\n", "mode Off\n");
-    counts(&off, &["2 1"], &[line]);
-    let refused = text.replace("call 2\n", "call 6\n");
-    counts(&refused, &["0 -"], &[]);
-    let refused = removing(&[(5, 5), (6, 6)], &[(5, "")]);
-    counts(&refused, &["0 -"], &[]);
-}
-
 #[test]
 fn calls_of_one_case_go_on_with_one_transaction() {
     let text = "case X\nmode On\nblock-status 403\nentry-body-access Off\nentry-body-processor XML\n\
@@ -350,7 +272,7 @@ fn calls_of_one_case_go_on_with_one_transaction() {
     assert!(results.contains("call 2\nanswer 0\nvisits 0:removed 1:matched\nids 3\ndata\n"));
     assert!(results.contains("body-access Off\nbody-processor XML\nranges 2-2\n"));
     assert!(results.contains("intervention status=444 drop=yes url=- log=- ids=3 phase=2 id=-"));
-    assert!(results.ends_with("intervention held\nunsupported -\nremoved 0 -\nend\n"));
+    assert!(results.ends_with("allowed no\nintervention held\nunsupported -\nend\n"));
     let output = walk(&[], text);
     let shown = out(&output);
     assert!(shown.contains("request   stopped, status 444, ids 3, connection dropped\n"));
@@ -436,11 +358,7 @@ fn directives_that_do_not_count() {
 #[test]
 fn the_walks_of_the_page() {
     let page = std::fs::read_to_string(cases("../docs/READING.md")).unwrap();
-    for name in [
-        "passed-over.cases",
-        "merged-ranges.cases",
-        "removed-rules.cases",
-    ] {
+    for name in ["passed-over.cases", "merged-ranges.cases"] {
         let output = program().arg(cases(name)).output();
         let output = output.expect("the program starts");
         assert!(output.status.success());

@@ -6,13 +6,12 @@ use tivembo::{Act, Builder, RuleSet};
 
 use crate::core_rules;
 
-/// A case of one call, and how many times as long the Rust's call must at least take, and plain Rust that scans all ranges.
+/// A case of one call, and how many times as long the Rust's call must at least take.
 #[derive(Clone)]
 pub struct Measured {
     pub name: &'static str,
     pub what: String,
     pub bound: f64,
-    pub plain_bound: Option<f64>,
     pub case: Case,
 }
 
@@ -21,11 +20,8 @@ const FIRST_ID: u64 = 500_000;
 const BELOW: u64 = 100_000;
 const ABOVE: u64 = 900_000;
 
-/// What 02 asks of the removal test beside plain Rust that scans all ranges.
-const PLAIN_BOUND: f64 = 5.0;
-
-/// What [`both_sides`] of 256 is.
-const BOTH_SIDES: &str = "256 ranges, half below and half above all ids";
+/// What [`both_sides`] is.
+pub const BOTH_SIDES: &str = "256 ranges, half below and half above all ids";
 
 pub fn all() -> Vec<Measured> {
     [without_match(), with_matches()].concat()
@@ -33,26 +29,25 @@ pub fn all() -> Vec<Measured> {
 
 fn without_match() -> Vec<Measured> {
     let cases = [
-        ("512-no-ranges", "no ranges", 20.0, Vec::new()),
+        ("512-no-ranges", "no ranges", 15.0, Vec::new()),
         (
             "512-ranges-above",
             "256 ranges above all ids",
-            100.0,
+            60.0,
             ranges(ABOVE, 256),
         ),
         (
             "512-ranges-below",
             "256 ranges below all ids",
-            100.0,
+            60.0,
             ranges(BELOW, 256),
         ),
-        ("512-ranges-in-turn", BOTH_SIDES, 100.0, both_sides(256)),
+        ("512-ranges-in-turn", BOTH_SIDES, 60.0, both_sides()),
     ];
     let measured = cases.map(|(name, what, bound, ranges)| Measured {
         name,
         what: format!("512 rules, no match, {what}"),
         bound,
-        plain_bound: (!ranges.is_empty()).then_some(PLAIN_BOUND),
         case: missed(512, ranges),
     });
     measured.to_vec()
@@ -61,36 +56,14 @@ fn without_match() -> Vec<Measured> {
 fn with_matches() -> Vec<Measured> {
     let core = "like the Core Rule Set's phase 2, paranoia level";
     let cases = [
-        (
-            "64-ctl",
-            "64 rules, 10 match with ctl".to_string(),
-            10.0,
-            mixed(),
-        ),
-        (
-            "512-additions",
-            "512 rules, 256 units that each add one range".to_string(),
-            1.0,
-            additions(),
-        ),
-        (
-            "core-level-1",
-            format!("{core} 1"),
-            10.0,
-            core_rules::case(1),
-        ),
-        (
-            "core-level-4",
-            format!("{core} 4"),
-            10.0,
-            core_rules::case(4),
-        ),
+        ("64-ctl", "64 rules, 10 match with ctl".to_string(), mixed()),
+        ("core-level-1", format!("{core} 1"), core_rules::case(1)),
+        ("core-level-4", format!("{core} 4"), core_rules::case(4)),
     ];
-    let measured = cases.map(|(name, what, bound, case)| Measured {
+    let measured = cases.map(|(name, what, case)| Measured {
         name,
         what,
-        bound,
-        plain_bound: None,
+        bound: 10.0,
         case,
     });
     measured.to_vec()
@@ -130,29 +103,9 @@ fn ranges(from: u64, count: u64) -> Vec<(u64, u64)> {
         .collect()
 }
 
-/// So many ranges: the ids lie between the two in the middle.
-pub fn both_sides(count: u64) -> Vec<(u64, u64)> {
-    [ranges(BELOW, count / 2), ranges(ABOVE, count / 2)].concat()
-}
-
-/// Of 512 rules every second one matches, with pass and a removal of one id that no rule has. No two of the 256 ids touch, and
-/// they come in no order, so that each is added between others.
-fn additions() -> Case {
-    let mut rules = RuleSet::builder();
-    let mut outcomes = Vec::new();
-    for index in 0..512 {
-        if index % 2 == 0 {
-            missed_rule(&mut rules, index);
-            outcomes.push(outcome::MISSED);
-            continue;
-        }
-        let removed = (ABOVE + 10 * (index / 2 * 97 % 256)).to_string();
-        let ctl = Act::Ctl(b"ruleRemoveById", removed.as_bytes());
-        let id = FIRST_ID + index;
-        rules.rule(Some(id), false, &[Act::Id(id), Act::Pass, ctl]);
-        outcomes.push(outcome::MATCHED_VARIABLE);
-    }
-    case(rules, outcomes, Vec::new())
+/// 256 ranges: the ids lie between the two in the middle.
+pub fn both_sides() -> Vec<(u64, u64)> {
+    [ranges(BELOW, 128), ranges(ABOVE, 128)].concat()
 }
 
 /// Of 64 rules the ten at 3, 9, 15 and on to 57 match; they have pass and one ctl action.

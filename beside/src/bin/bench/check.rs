@@ -3,32 +3,23 @@
 use beside::case::Case;
 use beside::found::differing;
 use beside::ours::Ours;
-use beside::removed;
-use case_format::CallResult;
 use oracle::{Missed, Run, Timed};
 
 use crate::gateway::{Gateway, Results};
-use crate::plain::Plain;
 
 /// Compares everything that a case's only call gives with the Rust's, and then what each timed side gives with that.
 pub fn check(case: &Case) {
     let call = &case.calls[0];
     let given = case.written("checked");
     let mut run = Run::new(given.mode, given.block_status, &given.entry);
-    let mut rust = run.call(&given.calls[0]);
-    rust.removed = Some(removed::by(&run.plain_ranges(), call));
-    let (ours, faults) = Ours::new(case).call(call, rust.ranges != given.entry.ranges);
-    let differing = differing(&rust, &ours);
+    let found = run.call(&given.calls[0]);
+    let (ours, faults) = Ours::new(case).call(call, found.ranges != given.entry.ranges);
+    let differing = differing(&found, &ours);
     assert!(differing.is_empty(), "the sides differ in {differing:?}");
     assert!(faults.is_empty(), "wrong with our side: {faults:?}");
     // No rule of these calls is removed, so the Rust evaluates all that the journal has.
-    assert_eq!(rust.visits, ours.visits);
-    check_timed(case, rust);
-}
+    assert_eq!(found.visits, ours.visits);
 
-/// Compares what each timed side of a case gives with what is right.
-fn check_timed(case: &Case, found: CallResult) {
-    let given = case.written("checked");
     let text = |id: &u64| id.to_string();
     let data = found.data.iter().map(|entry| entry.0.as_ref().map(text));
     let matched = (found.ids.iter().map(text).collect(), data.collect());
@@ -45,9 +36,6 @@ fn check_timed(case: &Case, found: CallResult) {
         ids: found.ids,
         data: found.data,
     };
-    if let Some(mut plain) = Plain::new(case) {
-        assert_eq!(plain.visits(), expected.visits, "the plain walk differs");
-    }
     let mut gateway = Gateway::new(case);
     for _ in 0..2 {
         assert_eq!(gateway.results(), expected, "a call made again differs");

@@ -1,9 +1,9 @@
 //! bench [--check] [FILE]
 //!
-//! How long the proved phase call takes, as a gateway makes it, beside the published Rust's `run_phase` and plain Rust that
-//! scans all removed ranges at each rule, on the same rules; how this grows with the number of rules and of ranges, also as a
-//! plot in FILE; and how long the largest legal calls take. All sides are compared before they are timed. The proved calls are
-//! then made once more in a thread that has a stack of 256 KiB.
+//! How long the proved phase call takes, as a gateway makes it, beside the published Rust's `run_phase` and a plain scan of
+//! the removed ranges, on the same rules; how this grows with the number of rules, also as a plot in FILE; and how long the
+//! largest legal calls take. All sides are compared before they are timed. The proved calls are then made once more in
+//! a thread that has a stack of 256 KiB.
 //!
 //! With --check the exit status is 1 where a ratio is below its bound or a largest call takes a second or more.
 
@@ -13,7 +13,6 @@ mod core_rules;
 mod gateway;
 mod growth;
 mod largest;
-mod plain;
 mod plot;
 mod times;
 
@@ -59,8 +58,7 @@ fn beside_the_rust(cases: &[Measured]) -> usize {
     println!("Times are of one call, in the fastest of {PASSES} passes of {BLOCKS} blocks; the sides take turns. The transaction of each");
     println!("call, ours and the Rust's, is made before the clock is read. The Rust's time has the evaluation of the rules in it, which");
     println!("the proved call is given. `bare`: the Rust with no variable at its missed rules, which is the least that evaluation");
-    println!("costs; the ratios are to rules as the oracle has them. `plain`: a whole walk without match in plain Rust, which scans all held");
-    println!("ranges at each rule and writes the journal. `scan`: whether each id lies in a held range, nothing else.");
+    println!("costs; the ratios are to rules as the oracle has them. `scan`: whether each id lies in a held range, nothing else.");
     let pass = || cases.iter().map(|measured| times::of(&measured.case));
     let mut fastest: Vec<Times> = pass().collect();
     for _ in 1..PASSES {
@@ -68,48 +66,26 @@ fn beside_the_rust(cases: &[Measured]) -> usize {
             *best = best.faster(&times);
         }
     }
-    let missed = cases.iter().zip(&fastest);
-    missed
-        .map(|(measured, times)| print_one(measured, times))
-        .sum()
+    let met = cases
+        .iter()
+        .zip(&fastest)
+        .map(|(measured, times)| print_one(measured, times));
+    met.filter(|&met| !met).count()
 }
 
-/// Prints a case and gives the number of its bounds that are missed.
-fn print_one(measured: &Measured, times: &Times) -> usize {
+fn print_one(measured: &Measured, times: &Times) -> bool {
     let (ratio, bound) = (times.ratio(), measured.bound);
     println!("{}", measured.what);
-    let plain = times.plain.map(|plain| format!(", {plain:.0} ns plain"));
     println!(
-        "  {:.0} ns ours, {:.0} ns the Rust, {:.0} ns the Rust bare{}, {:.0} ns scan",
-        times.ours,
-        times.rust,
-        times.bare,
-        plain.unwrap_or_default(),
-        times.scan
+        "  {:.0} ns ours, {:.0} ns the Rust, {:.0} ns the Rust bare, {:.0} ns scan",
+        times.ours, times.rust, times.bare, times.scan
     );
     println!("  bare {:.1}", times.bare / times.ours);
     println!("ratio {} {ratio:.1}", measured.name);
-    let missed = usize::from(is_missed(ratio, bound));
-    let beside_plain = times.plain.zip(measured.plain_bound);
-    missed
-        + beside_plain.map_or(0, |(plain, bound)| {
-            print_plain(measured, times, plain, bound)
-        })
-}
-
-/// The ratio to a whole plain walk. The bound holds for the scan alone too, where that is faster: so nothing that the walk does
-/// besides helps to reach it.
-fn print_plain(measured: &Measured, times: &Times, plain: f64, bound: f64) -> usize {
-    println!("ratio-plain {} {:.1}", measured.name, plain / times.ours);
-    let ratio = plain.min(times.scan) / times.ours;
-    usize::from(is_missed(ratio, bound))
-}
-
-fn is_missed(ratio: f64, bound: f64) -> bool {
     if ratio < bound {
         println!("  MISSED: {ratio:.2}, the bound is {bound}");
     }
-    ratio < bound
+    ratio >= bound
 }
 
 /// Makes the proved calls alone, in a thread with a small stack, where they must give the same.
@@ -124,8 +100,8 @@ fn on_a_small_stack(cases: &[Measured]) -> usize {
         for (measured, expected) in cases.iter().zip(&expected) {
             let mut gateway = Gateway::new(&measured.case);
             assert_eq!(gateway.results(), *expected);
-            let best = times::in_turns(vec![Box::new(|calls| gateway.time(calls))]);
-            println!("  {:.0} ns  {}", best[0], measured.what);
+            let [ours] = times::in_turns([&mut |calls| gateway.time(calls)]);
+            println!("  {ours:.0} ns  {}", measured.what);
         }
         largest::print()
     };

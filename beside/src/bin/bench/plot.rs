@@ -1,27 +1,17 @@
-//! Panels of lines, as SVG: numbers of rules or ranges to the right, the time of a call upwards, logarithmic.
+//! Lines over two logarithmic axes, as SVG: numbers of rules to the right, the time of a call upwards.
 
 use std::fmt::Write;
 
-/// Lines over one pair of axes.
-pub struct Panel {
-    pub title: &'static str,
-    /// What stands below the axis to the right, and whether that is logarithmic.
-    pub below: &'static str,
-    pub is_logarithmic: bool,
-    pub lines: Vec<Line>,
-}
-
-/// A line with a point for each number: that number, and nanoseconds.
+/// A line with a point for each number of rules: that number, and nanoseconds.
 pub struct Line {
     pub name: &'static str,
     pub color: &'static str,
     pub points: Vec<(f64, f64)>,
 }
 
-/// Of one panel.
 const WIDTH: f64 = 760.0;
 const HEIGHT: f64 = 480.0;
-/// Where its axes stand.
+/// Where the axes stand.
 const LEFT: f64 = 80.0;
 const RIGHT: f64 = 560.0;
 const TOP: f64 = 50.0;
@@ -29,22 +19,20 @@ const BOTTOM: f64 = 420.0;
 /// The least that two names stand apart.
 const APART: f64 = 18.0;
 
-/// From the numbers of all lines of a panel to places in it.
+/// From the numbers of all lines to places in the drawing.
 struct Axes {
-    numbers: [f64; 2],
-    is_logarithmic: bool,
+    rules: [f64; 2],
     /// Powers of ten.
     decades: [i32; 2],
 }
 
 impl Axes {
-    fn of(panel: &Panel) -> Self {
-        let points = || panel.lines.iter().flat_map(|line| &line.points);
+    fn of(lines: &[Line]) -> Self {
+        let points = || lines.iter().flat_map(|line| &line.points);
         let least = |of: fn(&(f64, f64)) -> f64| points().map(of).fold(f64::MAX, f64::min);
         let most = |of: fn(&(f64, f64)) -> f64| points().map(of).fold(0.0, f64::max);
         Self {
-            numbers: [least(|p| p.0), most(|p| p.0)],
-            is_logarithmic: panel.is_logarithmic,
+            rules: [least(|p| p.0), most(|p| p.0)],
             decades: [
                 least(|p| p.1).max(1.0).log10().floor() as i32,
                 most(|p| p.1).max(1.0).log10().ceil() as i32,
@@ -52,13 +40,9 @@ impl Axes {
         }
     }
 
-    fn x(&self, number: f64) -> f64 {
-        let scaled = |number: f64| match self.is_logarithmic {
-            true => number.ln(),
-            false => number,
-        };
-        let [least, most] = self.numbers.map(scaled);
-        LEFT + 20.0 + (scaled(number) - least) / (most - least) * (RIGHT - LEFT - 40.0)
+    fn x(&self, rules: f64) -> f64 {
+        let [least, most] = self.rules.map(f64::ln);
+        LEFT + 20.0 + (rules.ln() - least) / (most - least) * (RIGHT - LEFT - 40.0)
     }
 
     fn y(&self, nanoseconds: f64) -> f64 {
@@ -67,35 +51,39 @@ impl Axes {
     }
 }
 
-/// The whole drawing, a panel below the other.
-pub fn drawn(panels: &[Panel]) -> String {
-    let height = HEIGHT * panels.len() as f64;
+/// The whole drawing.
+pub fn drawn(lines: &[Line]) -> String {
+    let axes = Axes::of(lines);
     let mut svg = format!(
-        "<svg xmlns=\"http://www.w3.org/2000/svg\" viewBox=\"0 0 {WIDTH} {height}\" width=\"{WIDTH}\" height=\"{height}\" \
+        "<svg xmlns=\"http://www.w3.org/2000/svg\" viewBox=\"0 0 {WIDTH} {HEIGHT}\" width=\"{WIDTH}\" height=\"{HEIGHT}\" \
          font-family=\"sans-serif\" font-size=\"14\">\n\
-         <rect width=\"{WIDTH}\" height=\"{height}\" fill=\"white\"/>\n"
+         <rect width=\"{WIDTH}\" height=\"{HEIGHT}\" fill=\"white\"/>\n"
     );
-    for (at, panel) in panels.iter().enumerate() {
-        let down = HEIGHT * at as f64;
-        let _ = writeln!(svg, "<g transform=\"translate(0,{down})\">");
-        draw_panel(&mut svg, panel);
-        svg.push_str("</g>\n");
+    let middle = (LEFT + RIGHT) / 2.0;
+    text(
+        &mut svg,
+        middle,
+        28.0,
+        "middle",
+        "#000",
+        "Time of a phase call in which no rule matches",
+    );
+    text(
+        &mut svg,
+        middle,
+        BOTTOM + 46.0,
+        "middle",
+        "#000",
+        "number of rules; both axes are logarithmic",
+    );
+    time_axis(&mut svg, &axes);
+    rule_axis(&mut svg, &axes, lines);
+    for line in lines {
+        draw(&mut svg, &axes, line);
     }
+    names(&mut svg, &axes, lines);
     svg.push_str("</svg>\n");
     svg
-}
-
-fn draw_panel(svg: &mut String, panel: &Panel) {
-    let (axes, lines) = (Axes::of(panel), &panel.lines);
-    let middle = (LEFT + RIGHT) / 2.0;
-    text(svg, middle, 28.0, "middle", "#000", panel.title);
-    text(svg, middle, BOTTOM + 46.0, "middle", "#000", panel.below);
-    time_axis(svg, &axes);
-    number_axis(svg, &axes, lines);
-    for line in lines {
-        draw(svg, &axes, line);
-    }
-    names(svg, &axes, lines);
 }
 
 fn time_axis(svg: &mut String, axes: &Axes) {
@@ -107,12 +95,12 @@ fn time_axis(svg: &mut String, axes: &Axes) {
     stroke(svg, [LEFT, TOP, LEFT, BOTTOM], "#000");
 }
 
-fn number_axis(svg: &mut String, axes: &Axes, lines: &[Line]) {
+fn rule_axis(svg: &mut String, axes: &Axes, lines: &[Line]) {
     stroke(svg, [LEFT, BOTTOM, RIGHT, BOTTOM], "#000");
-    for (number, _) in lines.first().map_or(&[][..], |line| &line.points) {
-        let x = axes.x(*number);
+    for (rules, _) in lines.first().map_or(&[][..], |line| &line.points) {
+        let x = axes.x(*rules);
         stroke(svg, [x, BOTTOM, x, BOTTOM + 6.0], "#000");
-        text(svg, x, BOTTOM + 22.0, "middle", "#000", &number.to_string());
+        text(svg, x, BOTTOM + 22.0, "middle", "#000", &rules.to_string());
     }
 }
 

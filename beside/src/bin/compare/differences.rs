@@ -160,16 +160,12 @@ fn agree(ran: &Ran, word: &str) -> bool {
 mod tests {
     use super::*;
     use beside::case::{outcome, Call};
-    use beside::removed;
-    use case_format::{Answer, Item, Reader, Removed, Verdict};
+    use case_format::{Answer, Item, Reader, Verdict};
     use tivembo::{Action, Rule};
 
     /// What three sides gave, changed in some of them.
     fn ran(change: impl Fn(&mut CallResult, &mut CallResult, &mut CallResult)) -> Ran {
-        let side = || CallResult {
-            removed: Some(Removed::default()),
-            ..CallResult::empty(2)
-        };
+        let side = || CallResult::empty(2);
         let (mut rust, mut other, mut model) = (side(), side(), side());
         change(&mut rust, &mut other, &mut model);
         Ran {
@@ -203,18 +199,6 @@ mod tests {
             "# model   allowed yes",
         ];
         assert_eq!(marks(&model), lines);
-    }
-
-    #[test]
-    fn rules_removed_at_the_end() {
-        let two = removed::of([64, 65].into_iter());
-        let one = ran(|_, other, _| other.removed = Some(two));
-        let lines = [
-            "# rust    removed 0 -",
-            "# ours    removed 2 64",
-            "# model   removed 0 -",
-        ];
-        assert_eq!(marks(&one), lines);
     }
 
     /// The Rust has no removed visits, but the other sides must have the same.

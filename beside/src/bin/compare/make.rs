@@ -4,7 +4,6 @@
 mod ctl;
 mod held;
 mod limits;
-mod long;
 mod rules;
 mod texts;
 
@@ -17,9 +16,6 @@ use rules::Rules;
 use texts::Texts;
 
 pub use limits::at_limits;
-
-/// One case in so many has many rules.
-const LONG: usize = 150;
 
 /// Of 100 rules of a call, how many are links, missed and so on; drawn anew for each call, so that some calls have long
 /// chains and some many stops.
@@ -58,9 +54,6 @@ impl Mood {
 }
 
 pub fn case(random: &mut Random) -> Case {
-    if random.once_in(LONG) {
-        return long::case(random);
-    }
     let calls = random.pick(&[1, 1, 1, 1, 2, 2, 3, 4]);
     Case {
         mode: random.pick(&[

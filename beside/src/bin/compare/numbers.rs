@@ -2,7 +2,6 @@
 //! and its value's number, and what may be absent is 0, or 1 and itself.
 
 use beside::case::{Call, Case};
-use beside::removed;
 use case_format::{Answer, BodyProcessor, CallResult, Intervention, Mode, Stop};
 use tivembo::raw::words;
 
@@ -100,8 +99,6 @@ impl Line {
         }
         let unsupported = found.unsupported;
         self.numbers(unsupported.map_or([0, 0], |it| [it.rule, it.reason.number()]));
-        let removed = found.removed.expect("every side tells the removed rules");
-        self.numbers(removed::numbers(removed));
     }
 
     fn built(&mut self, built: &Intervention) {

@@ -6,7 +6,6 @@ mod flow;
 mod ranges;
 mod records;
 mod refused;
-mod removed;
 mod stops;
 mod table;
 mod unsupported;
@@ -102,7 +101,6 @@ impl<'a> Seen<'a> {
         stops::mark(self, &mut marks);
         records::mark(self, &mut marks);
         unsupported::mark(self, &mut marks);
-        removed::mark(self, &mut marks);
         marks
     }
 

@@ -52,8 +52,7 @@ pub fn record(folder: &Path, count: usize, seed: u64) -> io::Result<Vec<&'static
     let cases = taken.iter().map(|it| differences::case(&it.case, &it.name));
     write(folder, "cases/recorded.cases", cases)?;
     let results = taken.iter().map(|it| {
-        let (name, calls) = (it.name.clone(), it.found.iter());
-        let calls = calls.cloned().map(as_printed).collect();
+        let (name, calls) = (it.name.clone(), it.found.clone());
         CaseResult { name, calls }.to_string()
     });
     write(folder, "cases/recorded.expected", results)?;
@@ -61,14 +60,6 @@ pub fn record(folder: &Path, count: usize, seed: u64) -> io::Result<Vec<&'static
     write(folder, "crates/replay/stdin", lines)?;
     println!("{} cases", taken.len());
     Ok(missing)
-}
-
-/// A result as oracle/run prints it: the Rust does not tell the removed rules.
-fn as_printed(found: CallResult) -> CallResult {
-    CallResult {
-        removed: None,
-        ..found
-    }
 }
 
 fn write(folder: &Path, name: &str, texts: impl Iterator<Item = String>) -> io::Result<()> {

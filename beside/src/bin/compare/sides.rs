@@ -4,8 +4,7 @@ use beside::case::{Call, Case};
 use beside::found::differing;
 use beside::model::{Model, Reading};
 use beside::ours::Ours;
-use beside::removed::{self, is_in};
-use case_format::{Answer, BodyProcessor, CallResult, Mode, Removed, Stop, Verdict};
+use case_format::{Answer, BodyProcessor, CallResult, Mode, Stop, Verdict};
 use oracle::{CtlDirective, Run};
 
 /// 01's refusals 8 and 9.
@@ -155,24 +154,15 @@ impl Sides {
             ranges: held.ranges.clone(),
             allowed: held.allowed,
             intervention: if held.stopped { Stop::Held } else { Stop::No },
-            removed: Some(Removed::default()),
             ..CallResult::empty(phase)
         }
-    }
-
-    /// What the Rust gives of a call. It does not count the removed rules: that is done here by its ranges after the call, which
-    /// are those at entry where there was nothing to do.
-    fn accepted(&mut self, call: &Call) -> CallResult {
-        let found = self.rust.call(&call.written());
-        let removed = Some(removed::by(&self.rust.plain_ranges(), call));
-        CallResult { removed, ..found }
     }
 
     /// Makes the call on all sides. The Rust is not asked for one that the papers refuse.
     pub fn call(&mut self, call: &Call, directives: &Directives) -> Ran {
         let plain_before = self.rust.plain_ranges().len();
         let rust = match self.refusal(call, directives) {
-            None => self.accepted(call),
+            None => self.rust.call(&call.written()),
             Some(number) => self.refused(call.phase, number),
         };
         let plain = self.rust.plain_ranges();
@@ -252,7 +242,12 @@ fn removal_fault(
 ) -> Option<String> {
     let is_in = |ranges: &[(u64, u64)], index: u64| {
         let is_rule = (index as usize) < call.rules.len();
-        is_rule && is_in(ranges, call, index as usize)
+        let id = is_rule.then(|| call.id_of(index as usize)).flatten();
+        id.is_some_and(|id| {
+            ranges
+                .iter()
+                .any(|(start, end)| (*start..=*end).contains(&id))
+        })
     };
     let rises = ours.visits.windows(2).all(|two| two[0].0 < two[1].0);
     let agrees = |&(index, verdict): &(u64, Verdict)| match verdict {
@@ -261,74 +256,4 @@ fn removal_fault(
     };
     let is_right = rises && ours.visits.iter().all(agrees);
     (!is_right).then(|| "removed visits against the ranges".to_string())
-}
-
-#[cfg(test)]
-mod tests {
-    use super::*;
-    use beside::case::outcome;
-    use case_format::Entry;
-    use tivembo::{Act, RuleSet};
-
-    fn holding(ranges: &[(u64, u64)]) -> Entry {
-        Entry {
-            ranges: ranges.to_vec(),
-            ..Entry::default()
-        }
-    }
-
-    /// What all sides tell of the rules removed at the end, where all rules match, each with an id or none and some acts.
-    fn removed(entry: Entry, rules: &[(Option<u64>, &[Act<'_>])]) -> String {
-        let mut set = RuleSet::builder();
-        for (id, acts) in rules {
-            set.rule(*id, false, acts);
-        }
-        let outcomes = vec![outcome::MATCHED; rules.len()];
-        let call = Call::of_rules(2, &set.build_as_given(), outcomes);
-        let case = Case {
-            entry,
-            calls: vec![call.clone()],
-            ..Case::default()
-        };
-        let ran = Sides::new(&case, None).call(&call, &directives(&call));
-        assert!(ran.differing.is_empty(), "{:?}", ran.differing);
-        let removed = ran.rust.removed.expect("it is told");
-        removed.to_string()
-    }
-
-    fn removing(ids: &[u8]) -> [Act<'_>; 1] {
-        [Act::Ctl(b"ruleRemoveById", ids)]
-    }
-
-    #[test]
-    fn rules_removed_at_the_end() {
-        let some = |id: u64| (Some(id), &[][..]);
-        let (five, eight) = (removing(b"5"), removing(b"8-9"));
-        assert_eq!(removed(holding(&[]), &[(Some(5), &five)]), "1 0");
-        let merging = [(Some(5), &eight[..]), some(8), some(4)];
-        assert_eq!(removed(holding(&[(6, 7)]), &merging), "1 1");
-        let stopping = [(Some(1), &[Act::Deny][..]), some(2), some(3)];
-        assert_eq!(removed(holding(&[(2, 9)]), &stopping), "2 1");
-        let without_id = (None, &[][..]);
-        assert_eq!(removed(holding(&[(0, u64::MAX)]), &[without_id]), "0 -");
-        let many: Vec<_> = (0..130).map(some).collect();
-        assert_eq!(removed(holding(&[(64, 64), (129, 200)]), &many), "2 64");
-    }
-
-    #[test]
-    fn calls_with_nothing_to_do_count_and_refused_ones_do_not() {
-        let rules = [(Some(4), &[][..]), (Some(5), &[][..])];
-        let held = holding(&[(5, 5)]);
-        let allowed = Entry {
-            allowed: true,
-            ..held.clone()
-        };
-        let off = Entry {
-            mode: Some(Mode::Off),
-            ..held
-        };
-        assert_eq!(removed(allowed, &rules), "1 1");
-        assert_eq!(removed(off, &rules), "1 1");
-        assert_eq!(removed(holding(&[(5, 5), (6, 6)]), &rules), "0 -");
-    }
 }

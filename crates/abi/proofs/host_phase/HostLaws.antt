@@ -31,7 +31,6 @@ use Rattle.abi.proofs.marker_words.Padded.{words-length}
 use Rattle.transaction.specs.declared.types.Answer.{Answer}
 use Rattle.transaction.specs.declared.types.Phase.{Phase}
 use Rattle.transaction.specs.declared.types.Transaction.{Transaction}
-use Rattle.reading.specs.RemovedCount.{none_removed}
 use Rattle.transaction.specs.RunPhase.{transaction_of, call_of, answer_without, Ran}
 use Rattle.transaction.proofs.Tested.{sized-so}
 use Rattle.abi.specs.HostControls.{controls_from_host}
@@ -98,7 +97,7 @@ module _ (call : CallSettings) (rules actions words text outcomes : List ℕ) (h
 
   -- k is what `unknown_answer` gave
   pub ran-unknown : (k : ℕ) (made : Counts) (sizes : Sizes) → made ≡ counts → sizes ≡ sizes_in → known h ≡ false
-      → ((q : Call) → Counted q call made sizes → k ≡ unknown_answer q) → HostRan h given l (answer_without k none_removed) h l
+      → ((q : Call) → Counted q call made sizes → k ≡ unknown_answer q) → HostRan h given l (answer_without k) h l
   ran-unknown k made sizes same are unknown answers =
       let e : k ≡ unknown_answer lent_call =
       answers lent_call
@@ -107,7 +106,7 @@ module _ (call : CallSettings) (rules actions words text outcomes : List ℕ) (h
       record {
         ran = λ y. absurd (not-both (known h) y unknown);
         record_is = λ y. absurd (not-both (known h) y unknown);
-        refused = λ _. record { answer = ap (λ (n : ℕ). answer_without n none_removed) e; transaction = refl; lists = refl };
+        refused = λ _. record { answer = ap answer_without e; transaction = refl; lists = refl };
       }
 
 -- THE MARKERS THAT ARE LENT ON
@@ -161,7 +160,7 @@ module _ (call : CallSettings) (rules actions : List ℕ) (ms : List Marker) (te
     ran = λ k. ran-lent call rules actions text outcomes (from_host h) l (phase_found a h') l' ms (lent_part (marker_words_of ms)) refl (r.ran k);
     record_is = r.record_is;
     refused = λ k. record {
-      answer = (r.refused k).answer ∙ ap (λ (n : ℕ). answer_without n none_removed) same_answer;
+      answer = (r.refused k).answer ∙ ap answer_without same_answer;
       transaction = (r.refused k).transaction;
       lists = (r.refused k).lists;
     };

@@ -16,7 +16,6 @@ use Rattle.reading.specs.Records.{marker_from, marker_list, journal_words, data_
 use Rattle.reading.specs.Call.{Given, Call, rule_count}
 use Rattle.reading.specs.Refusals.{refusal_of, refused1, refused2}
 use Rattle.reading.specs.Walk.{Visit, journal_of, data_of}
-use Rattle.reading.specs.RemovedCount.{none_removed}
 use Rattle.reading.specs.Report.{no_report}
 use Rattle.reading.specs.Outcome.{Outcome, visits_of, outcome_of, at_free_end, transaction_after, lists_after}
 use Rattle.reading.specs.Demand3.{Demand3}
@@ -85,7 +84,6 @@ unvisited q n = record {
   error = 0;
   visits = 0;
   report = no_report;
-  removed = none_removed;
   transaction = transaction_after q.given q.transaction [];
   lists = lists_after q.given q.transaction q.lists [];
 }

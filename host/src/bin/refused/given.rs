@@ -2,8 +2,8 @@
 
 use tivembo::raw::{self, words, Lent, Lists};
 use tivembo::{
-    Action, CallSettings, HostAnswer, HostControls, HostTransaction, Marker, Mode, Outcome,
-    Records, RemovedRules, Rule, Transaction, MOST_RANGES, MOST_TARGETS,
+    Action, CallSettings, HostAnswer, HostTransaction, Marker, Mode, Outcome, Records, Rule,
+    Transaction, MOST_RANGES, MOST_TARGETS,
 };
 
 use crate::random::Random;
@@ -89,25 +89,6 @@ impl Written {
     }
 }
 
-/// How many of these rules, as they are lent, the ranges held remove, and the first of them: every rule with an id is asked of every
-/// range.
-pub fn removed_by(controls: &HostControls, rules: &[u64]) -> RemovedRules {
-    let ranges = controls.starts.iter().zip(&controls.ends);
-    let ranges = ranges.take(controls.ranges as usize);
-    let is_removed = |rule: &[u64]| {
-        let holds = |(start, end): (&u64, &u64)| *start <= rule[1] && rule[1] <= *end;
-        rule[0] == 1 && ranges.clone().any(holds)
-    };
-    let removed = (0..).zip(rules.chunks_exact(5));
-    let mut removed = removed.filter(|(_, rule)| is_removed(rule));
-    removed
-        .next()
-        .map_or(RemovedRules::default(), |(first, _)| {
-            let count = 1 + removed.count() as u64;
-            RemovedRules { count, first }
-        })
-}
-
 /// Everything that a call is given.
 #[derive(Debug, Clone, PartialEq, Eq)]
 pub struct Given {
@@ -135,11 +116,6 @@ impl Given {
         call(&mut self.transaction, &lent, &mut self.lists.lent())
     }
 
-    /// How many rules the ranges held remove, and the first of them.
-    pub fn removed(&self) -> RemovedRules {
-        removed_by(&self.transaction.controls, words(&self.rules))
-    }
-
     /// Whether everything that a call may not write at all is as before it.
     pub fn keeps_guards_of(&self, before: &Self) -> bool {
         self.rules == before.rules
@@ -165,7 +141,6 @@ impl Given {
         let checked = records.check().err();
         refused == checked.map_or(0, |broken| broken.limit.number())
     }
-
     /// Whether every question to the controls and every addition to them is answered 3 and changes nothing.
     pub fn controls_are_refused(&self) -> bool {
         let c = self.transaction.controls;

@@ -8,8 +8,7 @@ use tivembo::{
 use crate::given::{Given, Written};
 use crate::random::Random;
 
-/// Directives with their values, one after the other in every text. Each has two ranges or one target at most; the first two have
-/// ranges.
+/// Directives with their values, one after the other in every text. Each has two ranges or one target at most.
 const SUPPORTED: [(&str, &str); 6] = [
     ("ruleRemoveById", "1-5, 7"),
     ("RULEREMOVEBYID ", "942100"),
@@ -37,7 +36,7 @@ struct Directives {
 }
 
 /// A rule has three actions at most, and there are sixteen rules at most where actions may be directives: so at most 96
-/// ranges and 48 targets come from rules, two ranges from the closing rule, and this many may be held.
+/// ranges and 48 targets come from rules, and this many may be held.
 const HELD_RANGES: u64 = 150;
 const HELD_TARGETS: u64 = 16;
 const MOST_ACTIONS: usize = 3;
@@ -64,7 +63,6 @@ pub fn legal(random: &mut Random) -> Given {
     let mut outcomes: Vec<u8> = rules.iter().map(|_| random.number(4) as u8).collect();
     if random.one_in(2) {
         actions.push(ctl(random, &directives.unsupported));
-        actions.push(ctl(random, &directives.supported[..2]));
         (rules[0], outcomes[0]) = closing(random, actions.len());
     }
     Given {
@@ -128,12 +126,12 @@ fn ctl(random: &mut Random, directives: &[[Part; 2]]) -> Action {
     }
 }
 
-/// A first rule that matches, cannot be removed and is no link, with the last two actions: where the call is not refused and has
-/// anything to do, its unit closes and removes ids.
+/// A first rule that matches, cannot be removed and is no link, with the last action: where the call is not refused and has
+/// anything to do, its unit closes.
 fn closing(random: &mut Random, actions: usize) -> (Rule, u8) {
     let rule = Rule {
-        first: actions as u64 - 2,
-        count: 2,
+        first: actions as u64 - 1,
+        count: 1,
         ..Rule::default()
     };
     (rule, random.of(&[1, 2]))

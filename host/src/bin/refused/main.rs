@@ -6,12 +6,10 @@
 //! are reasons of their own. The answer must be the smaller number, with nothing told beside it, and every byte of the
 //! transaction, the lists and what stands around the lists must be as lent. Which number is right comes from what was
 //! planted, not from any code of ours. Where ranges are held in such a form, every question to the controls and every
-//! addition to them must be refused too. Half of the random calls have an unsupported directive, and one that removes ids,
-//! in a unit that closes where they are not refused; how many would tell of the first is printed, and how many would count
-//! a removed rule.
+//! addition to them must be refused too. Half of the random calls have an unsupported directive in a unit that closes where
+//! they are not refused, and how many would tell of one is printed.
 //! Then it makes N calls with records that hold anything: they may be answered as they like, but must return, keep
-//! to their lists, leave everything as lent where they are refused, and leave merged ranges where they are not. A call that
-//! is not refused must count the rules that the ranges found afterwards remove; these are asked here one by one. For all of
+//! to their lists, leave everything as lent where they are refused, and leave merged ranges where they are not. For all of
 //! these, what the crate's own check of a rule set says of the records must be what a call says that has no other fault, and
 //! what it says of the ranges held must be what a question says.
 //!
@@ -32,7 +30,7 @@ use given::{Given, PhaseCall};
 use plant::{Fault, FAULTS};
 use planted::WRONG;
 use random::Random;
-use tivembo::{HostAnswer, RemovedRules, UnsupportedAt};
+use tivembo::{HostAnswer, UnsupportedAt};
 
 /// How many wrong calls are shown.
 const SHOWN: u64 = 3;
@@ -94,16 +92,15 @@ fn run_refused(options: &Options, random: &mut Random) -> u64 {
     let plans = plans();
     let mut base = legal::legal(random);
     let (mut wrong, mut answers) = (0, [0u64; 11]);
-    let (mut telling, mut counting) = (0, 0);
-    let mut told = HostAnswer::default();
+    let (mut telling, mut tells) = (0, false);
     for (index, plan) in (0..options.count).zip(plans.iter().cycle()) {
         // A round of all plans begins with a new call, which must not be refused.
         if index % plans.len() as u64 == 0 {
             base = legal::legal(random);
-            let mut given = base.clone();
-            told = given.call(options.call);
-            let is_right = matches!(told.answer, 0 | 10) && told.removed == given.removed();
-            wrong += tell(is_right, wrong, "no fault", &base, &told);
+            let found = base.clone().call(options.call);
+            let is_right = matches!(found.answer, 0 | 10);
+            wrong += tell(is_right, wrong, "no fault", &base, &found);
+            tells = found.report.unsupported != UnsupportedAt::default();
         }
         let mut given = base.clone();
         plan.iter()
@@ -119,15 +116,13 @@ fn run_refused(options: &Options, random: &mut Random) -> u64 {
         let what = format!("{}, expected {expected}", names.join(" and "));
         wrong += tell(is_right, wrong, &what, &before, &found);
         answers[expected as usize] += 1;
-        telling += u64::from(told.report.unsupported != UnsupportedAt::default());
-        counting += u64::from(told.removed != RemovedRules::default());
+        telling += u64::from(tells);
     }
     println!(
         "calls with each expected answer from 1 on: {:?}",
         &answers[1..10]
     );
     println!("calls that would tell of an unsupported directive: {telling}");
-    println!("calls that would count a removed rule: {counting}");
     wrong
 }
 
@@ -136,7 +131,7 @@ fn is_consistent(given: &Given) -> bool {
     given.is_checked() && given.has_fault_told()
 }
 
-/// A refusal and nothing beside it: no visit, no error, nothing told and no removed rule.
+/// A refusal and nothing beside it: no visit, no error, and nothing told.
 fn refused_with(answer: u64) -> HostAnswer {
     HostAnswer {
         answer,
@@ -162,8 +157,7 @@ fn run_wild(options: &Options, random: &mut Random) -> u64 {
 /// Whether a call on anything is answered as some call may be.
 fn is_possible(found: &HostAnswer, given: &Given, before: &Given) -> bool {
     let rules = given.rules.len() as u64;
-    let walked =
-        found.visits <= rules && tells_possibly(found, rules) && found.removed == given.removed();
+    let walked = found.visits <= rules && tells_possibly(found, rules);
     let keeps = given.keeps_guards_of(before) && !given.has_range_fault();
     match found.answer {
         0 => walked && found.error == 0 && keeps,

@@ -3,9 +3,9 @@
 use tivembo::raw::{run_phase, Lent, Lists};
 use tivembo::{HostAnswer, HostControls, HostTransaction, Report};
 
-use crate::given::{removed_by, PhaseCall};
+use crate::given::PhaseCall;
 
-pub const WRONG: [(&str, PhaseCall); 13] = [
+pub const WRONG: [(&str, PhaseCall); 10] = [
     ("eight-and-nine", eight_and_nine),
     ("room-before-bytes", room_before_bytes),
     ("counts-a-visit", counts_a_visit),
@@ -16,9 +16,6 @@ pub const WRONG: [(&str, PhaseCall); 13] = [
     ("lets-touching-in", lets_touching_in),
     ("lets-one-around", lets_one_around),
     ("sorts-what-it-refuses", sorts_what_it_refuses),
-    ("counts-what-it-refuses", counts_what_it_refuses),
-    ("counts-at-entry", counts_at_entry),
-    ("counts-removed-visits", counts_removed_visits),
 ];
 
 fn is_refusal(answer: HostAnswer) -> bool {
@@ -158,41 +155,5 @@ fn sorts_what_it_refuses(
     ) {
         held.sort_unstable();
     }
-    found
-}
-
-/// Counts the removed rules of a refused call too, as of one that has nothing to do.
-fn counts_what_it_refuses(
-    t: &mut HostTransaction,
-    lent: &Lent<'_>,
-    lists: &mut Lists<'_>,
-) -> HostAnswer {
-    let found = run_phase(t, lent, lists);
-    if !is_refusal(found) {
-        return found;
-    }
-    let removed = removed_by(&t.controls, lent.rules);
-    HostAnswer { removed, ..found }
-}
-
-/// Counts by the ranges held before the phase, not by those held at its end.
-fn counts_at_entry(t: &mut HostTransaction, lent: &Lent<'_>, lists: &mut Lists<'_>) -> HostAnswer {
-    let before = t.controls;
-    let found = run_phase(t, lent, lists);
-    if is_refusal(found) {
-        return found;
-    }
-    let removed = removed_by(&before, lent.rules);
-    HostAnswer { removed, ..found }
-}
-
-/// Counts the visits that found their rule removed, not the rules.
-fn counts_removed_visits(
-    t: &mut HostTransaction,
-    lent: &Lent<'_>,
-    lists: &mut Lists<'_>,
-) -> HostAnswer {
-    let mut found = run_phase(t, lent, lists);
-    found.removed.count = found.report.removed;
     found
 }

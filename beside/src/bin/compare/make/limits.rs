@@ -137,7 +137,7 @@ fn no_place_left(random: &mut Random) -> Case {
 }
 
 /// Gives the first rule, which is made to match alone, directives that remove these ids and so many targets.
-pub fn remove(random: &mut Random, call: &mut Call, ids: &[String], targets: usize) {
+fn remove(random: &mut Random, call: &mut Call, ids: &[String], targets: usize) {
     let mut texts = Texts {
         text: std::mem::take(&mut call.text),
     };

@@ -1,6 +1,5 @@
 //! Calls that the papers refuse, for ranges held that are not in the merged form, or for their ranges or targets.
 
-use beside::removed;
 use case_format::{Answer, Mode};
 
 use crate::sides::{written, MOST_RANGES};
@@ -18,8 +17,6 @@ pub fn mark(seen: &Seen, marks: &mut Marks) {
     let mode = before.mode.unwrap_or(seen.case.mode);
     let is_idle = before.allowed || before.stopped || mode == Mode::Off;
     marks.set_if(is_idle || seen.call.rules.is_empty(), F::RefusedIdle);
-    let removed = removed::by(&before.ranges, seen.call);
-    marks.set_if(removed.count > 0, F::RefusedRemoves);
     marks.set_if(before.calls > 0, F::RefusedLater);
 }
 

@@ -72,7 +72,6 @@ features! {
     Refused8Full = "answer: 8, 256 ranges are held",
     Refused9 = "answer: 9",
     RefusedIdle = "answer: 3, 8 or 9 where there would be nothing to do",
-    RefusedRemoves = "answer: 3, 8 or 9 where ranges held would remove a rule",
     RefusedLater = "answer: 8 or 9 after an earlier call",
     Answer10 = "answer: 10",
     ErrorFirst = "answer: 10 at the first rule",
@@ -252,28 +251,6 @@ features! {
     UnsupportedLeftOpen = "unsupported: of a chain left open, none is told",
     UnsupportedMissed = "unsupported: of a missed rule, none is told",
     UnsupportedRemoved = "unsupported: of a removed rule, none is told",
-    Removed0 = "removed at the end: no rule",
-    Removed1 = "removed at the end: 1 rule",
-    RemovedSeveral = "removed at the end: several rules, not all",
-    RemovedAll = "removed at the end: all of several rules",
-    RemovedFirst0 = "removed at the end: the first is 0",
-    RemovedFirst1 = "removed at the end: the first is 1 to 62",
-    RemovedFirst63 = "removed at the end: the first is 63",
-    RemovedFirst64 = "removed at the end: the first is 64",
-    RemovedFirst65 = "removed at the end: the first is 65 or later",
-    RemovedFirstNone = "removed at the end: no rule, though ranges are held",
-    RemovedWords = "removed at the end: rules before index 64 and rules from there on",
-    RemovedRan = "removed at the end: a rule that ran",
-    RemovedPassed = "removed at the end: a rule after the last that ran",
-    RemovedNoId = "removed at the end: a rule without id is not, though the number in place of its id lies in a range",
-    RemovedAllowed = "removed at the end: rules of a call entered when allowed",
-    RemovedStopped = "removed at the end: rules of a call entered when stopped",
-    RemovedOff = "removed at the end: rules of a call entered in mode Off",
-    RemovedAt10 = "removed at the end: rules of a call with answer 10",
-    RemovedBefore = "removed at the end: a rule before the unit that adds the range",
-    RemovedBehind = "removed at the end: a rule after the unit that adds the range",
-    RemovedItself = "removed at the end: a rule of the unit that adds the range",
-    RemovedByTwo = "removed at the end: rules in ranges that two units added",
     Byte00 = "text: byte 00 in an intervention or a target",
     Byte7F = "text: byte 7F in an intervention or a target",
     TextEmpty = "text: an empty text in an intervention",
@@ -286,16 +263,12 @@ features! {
 }
 
 /// Lines that only large calls reach.
-const LARGE: [Feature; 9] = [
+const LARGE: [Feature; 5] = [
     Feature::Rules13,
     Feature::Rules512,
     Feature::Actions4096,
     Feature::Markers256,
     Feature::Text65536,
-    Feature::RemovedFirst63,
-    Feature::RemovedFirst64,
-    Feature::RemovedFirst65,
-    Feature::RemovedWords,
 ];
 
 /// Lines of refused calls. The Rust has no results of those, so that no case is recorded with one.

@@ -3,14 +3,11 @@ use borrow.Author.Rules.{rules}
 use Rattle.abi.proofs.host_phase.as_lent.Statement.{statement}
 use Rattle.abi.proofs.host_phase.as_lent.Tie as tie
 
-none-requires : tie.Need-none-requires
-none-requires c κs = search rules
-
 unvisited-requires : tie.Need-unvisited-requires
 unvisited-requires c κs = search rules
 
 returns : tie.Need-returns
-returns c = rw (c.unvisited.ensures, c.before.none.ensures)
+returns c = rw c.unvisited.ensures
 
 pub as-lent-spec : {M : Type 1} → statement M
-as-lent-spec = tie.close (tie.spec none-requires unvisited-requires returns)
+as-lent-spec = tie.close (tie.spec unvisited-requires returns)

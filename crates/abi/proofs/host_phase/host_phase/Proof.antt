@@ -9,7 +9,6 @@ use Rattle.reading.specs.Call.{Given}
 use Rattle.control.proofs.Determined.{SameSizes}
 use Rattle.abi.specs.HostControls.{controls_from_host}
 use Rattle.abi.specs.declared.host_phase.HostPhase.{HostPhase}
-use Rattle.reading.specs.RemovedCount.{none_removed}
 use Rattle.transaction.specs.RunPhase.{answer_without, Ran}
 use borrow.Author.Rules.{rules}
 use borrow.Author.Tests.{not-true, not-false}
@@ -102,7 +101,7 @@ Unknown c r words =
     HostRan s.args.h (given_at s words) (lent_at s) r.answer r.transaction (lent_at s)
 
 unknown : (c : tie.After-unknown-answer) → Unknown c
-    (record { answer = answer_without c.unknown-answer.result none_removed; transaction = (begun c.before.before.before.before.before).args.h })
+    (record { answer = answer_without c.unknown-answer.result; transaction = (begun c.before.before.before.before.before).args.h })
     c.before.before.before.before.before.lent-words.result.now
 unknown c =
     let k = c.before.before.before.before in

@@ -2,8 +2,6 @@
 use mathlib.Core.Path.{ap, ◌∙◌}
 use Rattle.reading.specs.declared.Action.{Action}
 use Rattle.reading.specs.Text.{part_of}
-use Rattle.reading.specs.Records.{rule_list}
-use Rattle.apply.proofs.append.RenewalLaws.{renewed-target}
 use Rattle.apply.proofs.run.StepLaws.{turned_set, turned-target, turned-ranges}
 use borrow.Author.Rules.{rules}
 use Rattle.apply.proofs.run.apply.Statement.{statement}
@@ -13,17 +11,13 @@ set-by-code-requires : tie.Need-set-by-code-requires
 set-by-code-requires c κs = search rules
 
 returns : tie.Need-returns
-returns c = (turned_set _ _ _ _ _ _ _ _ _ c.before.if1.true c.set-by-code.ensures, λ k. k)
+returns c = turned_set _ _ _ _ _ _ _ _ _ c.before.if1.true c.set-by-code.ensures
 
 add-target-requires : tie.Need-add-target-requires
 add-target-requires c κs = search rules
 
 returns-2 : tie.Need-returns-2
-returns-2 c =
-    let a = c.before.before.before.before.before.before.before.before.args in (
-      turned-target _ _ _ _ _ _ _ _ _ _ _ c.before.before.before.if2.true c.add-target.ensures,
-      renewed-target (rule_list a.rules.now) a.h _ a.starts.now a.ends.now _ _ _ _ _ a.words.now c.add-target.ensures,
-    )
+returns-2 c = turned-target _ _ _ _ _ _ _ _ _ _ _ c.before.before.before.if2.true c.add-target.ensures
 
 action-at-requires : tie.Need-action-at-requires
 action-at-requires c κs = search rules
@@ -36,13 +30,11 @@ add-ranges-requires c κs = search rules
 
 returns-3 : tie.Need-returns-3
 returns-3 c =
-    let e = c.before.before.before.before.before.before in (
-      turned-ranges _ _ _ _ _ _ _ _ _ _ _ _ e.before.if1.false e.if2.false
-          (c.before.before.before.before.part_of.ensures
-          ∙ ap (λ (a : Action). part_of e.before.before.before.before.before.args.text.now a.value) c.before.before.before.before.before.action-at.ensures)
-          c.add-ranges.ensures.0,
-      c.add-ranges.ensures.1,
-    )
+    let e = c.before.before.before.before.before in
+    turned-ranges _ _ _ _ _ _ _ _ _ _ _ _ e.before.if1.false e.if2.false
+    (c.before.before.before.part_of.ensures
+    ∙ ap (λ (a : Action). part_of e.before.before.before.before.args.text.now a.value) c.before.before.before.before.action-at.ensures)
+    c.add-ranges.ensures
 
 pub apply-spec : {M : Type 1} → statement M
 apply-spec =

@@ -12,11 +12,11 @@ rule-controls-requires c κs = search rules
 
 returns : tie.Need-returns
 returns c =
-    let r = c.before.before.before.before.before.before in
-    (entry-member _ _ _ _ _ _ _ _ _ _ r.before.if1.true r.rule-at.ensures c.rule-controls.ensures.0, c.rule-controls.ensures.1)
+    let r = c.before.before.before.before.before in
+    entry-member _ _ _ _ _ _ _ _ _ _ r.before.if1.true r.rule-at.ensures c.rule-controls.ensures
 
 returns-2 : tie.Need-returns-2
-returns-2 c = (entry-none _ _ _ _ _ _ _ c.if1.false, λ k. k)
+returns-2 c = entry-none _ _ _ _ _ _ _ c.if1.false
 
 pub entry-controls-spec : {M : Type 1} → statement M
 entry-controls-spec =

@@ -2,27 +2,24 @@
 use Prim.Native.Nat.{◌+◌, ◌-◌, ◌<◌, ◌^◌}
 use native.Mathlib.Omega.{arith}
 use Rattle.reading.specs.Records.{rule_list, action_list}
-use Rattle.reading.specs.Controls.{range_list}
-use Rattle.removal.specs.Renewal.{Renewed}
 use Rattle.apply.specs.Append.{struct_of}
 use Rattle.apply.proofs.run.UnitLaws.{Across, across-none, across-more, across-end}
 use Rattle.apply.proofs.run.members_controls.Statement.{statement}
 use Rattle.apply.proofs.run.members_controls.Tie as tie
 
 abbrev invariant-loop : tie.invariant-loop
-invariant-loop entries rules actions text codes phase starts₀ ends₀ phases₀ positions₀ words₀ n r₀ i₀ starts ends phases positions words r i =
+invariant-loop entries rules actions text codes phase starts₀ ends₀ phases₀ positions₀ n r₀ i₀ starts ends phases positions r i =
     Across (record { phase = phase; text = text; actions = action_list actions }) codes (rule_list rules) entries
     r₀.added (struct_of r₀ starts₀ ends₀ phases₀ positions₀) r.added (struct_of r starts ends phases positions) i
-    × Renewed (rule_list rules) (range_list r₀.ranges starts₀ ends₀) words₀ (range_list r.ranges starts ends) words
 
 abbrev decreases-loop : tie.decreases-loop
-decreases-loop entries rules actions text codes phase starts₀ ends₀ phases₀ positions₀ words₀ n r₀ i₀ starts ends phases positions words r i = n - i
+decreases-loop entries rules actions text codes phase starts₀ ends₀ phases₀ positions₀ n r₀ i₀ starts ends phases positions r i = n - i
 
 small : (c : tie.In-loop invariant-loop decreases-loop) → c.before.loop.i + 1 < 2 ^ 64
 small c = omega (arith, c.loop-test.true)
 
 loop-holds : tie.Need-loop-init invariant-loop decreases-loop
-loop-holds c = (across-none _ _ _ _ _ _, λ k. k)
+loop-holds c = across-none _ _ _ _ _ _
 
 mul-index : tie.Need-overflow-mul-index invariant-loop decreases-loop
 mul-index c = omega arith
@@ -49,20 +46,18 @@ entry-controls-requires : tie.Need-entry-controls-requires invariant-loop decrea
 entry-controls-requires c κs = tt
 
 add-i : tie.Need-overflow-add-i invariant-loop decreases-loop
-add-i c = record { fits = small c.before.before.before.before.before.before.before.before }
+add-i c = record { fits = small c.before.before.before.before.before.before.before }
 
 loop-less : tie.Need-loop-smaller invariant-loop decreases-loop
-loop-less c = omega (arith, c.before.before.before.before.before.before.before.before.loop-test.true)
+loop-less c = omega (arith, c.before.before.before.before.before.before.before.loop-test.true)
 
 loop-again : tie.Need-loop-preserved invariant-loop decreases-loop
 loop-again c =
-    let l = c.before.before.before.before.before.before.before.before.before.loop in (
-      across-more _ _ _ _ _ _ _ _ l.i l.invariant.0 _ _ c.before.before.before.before.before.before.before.before.loop-test.true c.entry-controls.ensures.0,
-      λ k. c.entry-controls.ensures.1 (l.invariant.1 k),
-    )
+    let l = c.before.before.before.before.before.before.before.before.loop in
+    across-more _ _ _ _ _ _ _ _ l.i l.invariant _ _ c.before.before.before.before.before.before.before.loop-test.true c.entry-controls.ensures
 
 returns : tie.Need-returns invariant-loop decreases-loop
-returns c = let l = c.before.loop in (across-end _ _ _ _ _ _ _ _ l.i l.invariant.0 c.loop-test.false, l.invariant.1)
+returns c = let l = c.before.loop in across-end _ _ _ _ _ _ _ _ l.i l.invariant c.loop-test.false
 
 pub members-controls-spec : {M : Type 1} → statement M
 members-controls-spec =

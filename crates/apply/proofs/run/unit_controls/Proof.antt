@@ -12,11 +12,9 @@ changes-requires c κs = tt
 -- where no action of the unit changes the controls
 returns : tie.Need-returns
 returns c =
-    let a = c.before.before.before.before.before.before.before.args in (
-      unit-unchanged _ a.codes.now (rule_list a.rules.now) (matched_in (journal_list a.entries.now)) _ _
-          (sym c.before.changes.ensures ∙ not-true c.before.changes.result c.if1.true),
-      λ k. k,
-    )
+    let a = c.before.before.before.before.before.before.before.args in
+    unit-unchanged _ a.codes.now (rule_list a.rules.now) (matched_in (journal_list a.entries.now)) _ _
+    (sym c.before.changes.ensures ∙ not-true c.before.changes.result c.if1.true)
 
 members-controls-requires : tie.Need-members-controls-requires
 members-controls-requires c κs = tt

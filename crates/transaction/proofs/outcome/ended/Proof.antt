@@ -12,9 +12,6 @@ answer-of-requires c κs = search rules
 error-of-requires : tie.Need-error-of-requires
 error-of-requires c κs = search rules
 
-none-requires : tie.Need-none-requires
-none-requires c κs = search rules
-
 gives-allow-requires : tie.Need-gives-allow-requires
 gives-allow-requires c κs = search rules
 
@@ -22,12 +19,11 @@ returns : tie.Need-returns
 returns c =
     let allowed = c.before.before in
     rw (
-      allowed.before.before.before.before.no-report.ensures,
-      allowed.before.before.before.answer-of.ensures,
-      allowed.before.before.error-of.ensures,
-      allowed.before.none.ensures,
+      allowed.before.before.before.no-report.ensures,
+      allowed.before.before.answer-of.ensures,
+      allowed.before.error-of.ensures,
       allowed.gives-allow.ensures,
     )
 
 pub ended-spec : {M : Type 1} → statement M
-ended-spec = tie.close (tie.spec no-report-requires answer-of-requires error-of-requires none-requires gives-allow-requires returns)
+ended-spec = tie.close (tie.spec no-report-requires answer-of-requires error-of-requires gives-allow-requires returns)

@@ -12,7 +12,6 @@ use Rattle.reading.specs.Walk.{nothing_to_do}
 use Rattle.reading.specs.Refusals.{refusal_of}
 use Rattle.lists.proofs.RecordLaws.{length-actions}
 use Rattle.apply.specs.Codes.{codes_of}
-use Rattle.removal.proofs.renew.RenewLaws.{no_bits}
 use Rattle.refusals.specs.FirstRefusal.{Sized, first_of_seven}
 use Rattle.transaction.proofs.Promise.{few-of-seven}
 use Rattle.transaction.proofs.Tested.{Lent, given_in, call_at, sized-so, roomed-so, idle-is, digested, limited}
@@ -40,9 +39,6 @@ sizes-of-requires c κs = search rules
 
 first-refusal-requires : tie.Need-first-refusal-requires
 first-refusal-requires c κs = search rules
-
-none-requires : tie.Need-none-requires
-none-requires c κs = search rules
 
 as-lent-requires : tie.Need-as-lent-requires
 as-lent-requires c κs = search rules
@@ -120,9 +116,9 @@ idle c =
 
 returns : tie.Need-returns
 returns c =
-    let p = c.before.before.before in
-    ran_first (given-first p) p.first-refusal.result c.as_lent.result (rw c.before.none.ensures at c.as_lent.ensures)
-    (first p) c.before.before.if1.true
+    let p = c.before.before in
+    ran_first (given-first p) p.first-refusal.result c.as_lent.result c.as_lent.ensures
+    (first p) c.before.if1.true
 
 sub-write-codes : tie.Need-overflow-sub-write-codes
 sub-write-codes c = search rules
@@ -148,17 +144,14 @@ part-limit-refusal-end c = few-fit c.before.before
 limit-refusal-requires : tie.Need-limit-refusal-requires
 limit-refusal-requires c κs = search rules
 
-none-requires-2 : tie.Need-none-requires-2
-none-requires-2 c κs = search rules
-
 as-lent-requires-2 : tie.Need-as-lent-requires-2
 as-lent-requires-2 c κs = search rules
 
 returns-2 : tie.Need-returns-2
 returns-2 c =
-    let b = c.before.before in
+    let b = c.before in
     let p = b.before in
-    ran-by (given-coded (coded p)) p.limit-refusal.result c.as-lent2.result (rw c.before.none2.ensures at c.as-lent2.ensures)
+    ran-by (given-coded (coded p)) p.limit-refusal.result c.as-lent2.result c.as-lent2.ensures
     (last p) b.if2.true
 
 mode-of-number-requires : tie.Need-mode-of-number-requires
@@ -167,18 +160,14 @@ mode-of-number-requires c κs = search rules
 is-idle-requires : tie.Need-is-idle-requires
 is-idle-requires c κs = search rules
 
-tell-held-requires : tie.Need-tell-held-requires
-tell-held-requires c κs = search rules
-
 as-lent-requires-3 : tie.Need-as-lent-requires-3
 as-lent-requires-3 c κs = search rules
 
 returns-3 : tie.Need-returns-3
 returns-3 c =
-    let b = c.before.before.before.before.before.before in
+    let b = c.before in
     let p = b.before in
-    ran-nothing (given-idle p) c.as-lent3.result c.before.tell-held.result c.as-lent3.ensures c.before.tell-held.ensures
-    (passed (past-nine p)) (idle p ∙ b.if3.true)
+    ran-nothing (given-idle p) c.as-lent3.result c.as-lent3.ensures (passed (past-nine p)) (idle p ∙ b.if3.true)
 
 sub-walk-rules : tie.Need-overflow-sub-walk-rules
 sub-walk-rules c = search rules
@@ -197,17 +186,17 @@ whole d = front (left d) 4096 ∙ take_all 4096 (left d) (omega (arith, room d))
 
 walk-rules-requires : tie.Need-walk-rules-requires
 walk-rules-requires c κs =
-    let b = c.before.before.before.before.before.before in
+    let b = c.before.before.before.before.before in
     let p = b.before in
     let d = coded (past-nine p).before in
-    (ready_at (given-idle p) (passed (past-nine p)) (idle p ∙ b.if3.false) _ (whole d ∙ codes d), no_bits)
+    ready_at (given-idle p) (passed (past-nine p)) (idle p ∙ b.if3.false) _ (whole d ∙ codes d)
 
 abbrev start : tie.Else3 → tie.Start
 start c = (past-seven (coded (past-nine c.before).before)).before.before.before.before.before.before.before.before.before.before.before
 
 -- what the walk left, and that its visits are in the journal
 abbrev walking : tie.After-walk-rules → tie.Else3
-walking c = c.before.before.before.before.before.before.before
+walking c = c.before.before.before.before.before.before
 
 abbrev lists : tie.After-walk-rules → LentLists
 lists c =
@@ -218,7 +207,7 @@ visited : (c : tie.After-walk-rules) → 2 * c.walk-rules.result.answer.visits �
 visited c =
     let b = walking c in
     let p = b.before in
-    visited-at (given-idle p) (passed (past-nine p)) (idle p ∙ b.if3.left) c.walk-rules.result (lists c) c.walk-rules.ensures.0
+    visited-at (given-idle p) (passed (past-nine p)) (idle p ∙ b.if3.left) c.walk-rules.result (lists c) c.walk-rules.ensures
 
 mul-visited : tie.Need-overflow-mul-visited
 mul-visited c =
@@ -246,9 +235,6 @@ part-tell-end-2 c =
     let d = coded (past-nine (walking w).before).before in
     fits (left d) 4096 (omega arith) (room d)
 
-tell-removed-requires : tie.Need-tell-removed-requires
-tell-removed-requires c κs = search rules
-
 tell-requires : tie.Need-tell-requires
 tell-requires c κs = search rules
 
@@ -263,16 +249,14 @@ same-length-3 c = search rules
 
 returns-4 : tie.Need-returns-4
 returns-4 c =
-    let t = c.before in
-    let w = c.before.before.before.before.before.before.before.before.before.before.before.before.before in
+    let w = c.before.before.before.before.before.before.before.before.before.before.before.before in
     let b = walking w in
     let p = b.before in
     let d = coded (past-nine p).before in
-    ran-at (given-idle p) (passed (past-nine p)) (idle p ∙ b.if3.left) w.walk-rules.result (lists w) w.walk-rules.ensures.0
-    t.tell.result
-    (told_at (given-coded d) (zero (past-seven d)) (left d) (codes d) _ _ d.write-codes.result t.tell.result (whole d) d.write-codes.ensures.0 t.tell.ensures
+    ran-at (given-idle p) (passed (past-nine p)) (idle p ∙ b.if3.left) w.walk-rules.result (lists w) w.walk-rules.ensures
+    c.tell.result
+    (told_at (given-coded d) (zero (past-seven d)) (left d) (codes d) _ _ d.write-codes.result c.tell.result (whole d) d.write-codes.ensures.0 c.tell.ensures
     ∙ ap (λ (words : List ℕ). report_of (given_in (given-idle p)) (journal_list words)) (from_start (lists w).journal (2 * w.walk-rules.result.answer.visits)))
-    c.tell-removed.result w.walk-rules.new.1.1.1.1.1.1.1.1.1.1.1.0 c.tell-removed.ensures w.walk-rules.ensures.1
 
 pub run-phase-spec : {M : Type 1} → statement M
 run-phase-spec =
@@ -280,7 +264,6 @@ run-phase-spec =
     (tie.spec
     sizes-of-requires
     first-refusal-requires
-    none-requires
     as-lent-requires
     returns
     sub-write-codes
@@ -291,12 +274,10 @@ run-phase-spec =
     part-limit-refusal-start
     part-limit-refusal-end
     limit-refusal-requires
-    none-requires-2
     as-lent-requires-2
     returns-2
     mode-of-number-requires
     is-idle-requires
-    tell-held-requires
     as-lent-requires-3
     returns-3
     sub-walk-rules
@@ -311,7 +292,6 @@ run-phase-spec =
     part-tell-start-2
     part-tell-end-2
     tell-requires
-    tell-removed-requires
     same_length
     same-length-2
     same-length-3

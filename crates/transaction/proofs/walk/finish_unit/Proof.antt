@@ -1,17 +1,14 @@
 -- `transaction::walk::finish_unit` meets its contract.
 use Prim.Native.Nat.{◌*◌, ◌<◌, ◌^◌}
-use mathlib.Core.Path.{refl, sym, ap, subst, ◌∙◌}
+use mathlib.Core.Path.{refl, ap, ◌∙◌}
 use native.Mathlib.Omega.{arith}
 use lib.ListN.{length, length-drop}
 use Rattle.reading.specs.declared.RuleEngineMode.{RuleEngineMode}
 use Rattle.reading.specs.Numbers.{mode_of_number}
-use Rattle.reading.specs.Records.{rule_list, marker_list, given_of}
-use Rattle.reading.specs.Controls.{range_list, mode_or}
-use Rattle.removal.specs.Renewal.{Renewed}
-use Rattle.apply.specs.declared.append.ControlCounts.{ControlCounts}
+use Rattle.reading.specs.Records.{marker_list, given_of}
 use Rattle.apply.specs.Append.{struct_of}
-use Rattle.transaction.specs.WalkRules.{members_at, left_under, counts_in}
-use Rattle.transaction.proofs.Found.{mode-law, counts-under}
+use Rattle.transaction.specs.WalkRules.{members_at, left_under}
+use Rattle.transaction.proofs.Found.{mode-law}
 use Rattle.transaction.proofs.Parts.{lent_is, put_back}
 use Rattle.transaction.proofs.Turn.{wrote-few}
 use borrow.Author.Rules.{rules}
@@ -33,7 +30,7 @@ abbrev entered : tie.After-close-unit → tie.Start
 entered c = c.before.before.before.before.before.before.before.before.before.before.before.before.before.before.before.before
 
 abbrev closed : tie.After-unit-controls → tie.After-close-unit
-closed c = c.before.before.before.before.before.before.before.before.before.before.before
+closed c = c.before.before.before.before.before.before.before.before.before.before
 
 mul-from : tie.Need-overflow-mul-from
 mul-from c = let s = c.before.before.before.before.before.before.before.before.before.before in omega (arith, s.requires.first, s.requires.visits, journal-small s)
@@ -117,26 +114,20 @@ returns c =
     let arrays = x.unit-controls.new.1.1.1.1.1.1.1 in
     let q = given_of a.call a.rules.now a.actions.now (marker_list a.markers.now) a.text.now a.outcomes.now in
     let counts = struct_of x.unit-controls.result arrays.0 arrays.1.0 arrays.1.1.0 arrays.1.1.1.0 in
-    let left = c.leave-unit.ensures (marker_list a.markers.now) a.text.now a.outcomes.now in (
-      record {
-        gave = u.close-unit.result;
-        counts = x.unit-controls.result;
-        free-ids = lists.0;
-        free-entries = lists.1.0;
-        wrote = rw (lent_is ids a.at.ids, lent_is entries (4 * a.at.entries)) at u.close-unit.ensures;
-        ids-are = put_back ids a.at.ids lists.0;
-        entries-are = put_back entries (4 * a.at.entries) lists.1.0;
-        turned = x.unit-controls.ensures.0;
-        left_is =
-            left
-            ∙ ap (λ (m : RuleEngineMode). left_under m q (members_at a.at a.journal.now) a.at u.close-unit.result
-            x.unit-controls.result) (mode-law q counts (mode_of_number a.call.mode) _ refl refl);
-      },
-      subst (λ (h : ControlCounts). Renewed (rule_list a.rules.now) (range_list a.at.counts.ranges a.starts.now a.ends.now) a.words.now
-          (range_list h.ranges arrays.0 arrays.1.0) arrays.1.1.1.1.0)
-          (sym (ap counts_in left ∙ counts-under (mode_or (mode_of_number a.call.mode) x.unit-controls.result.settings.mode) q (members_at a.at a.journal.now) a.at
-          u.close-unit.result x.unit-controls.result)) x.unit-controls.ensures.1,
-    )
+    record {
+      gave = u.close-unit.result;
+      counts = x.unit-controls.result;
+      free-ids = lists.0;
+      free-entries = lists.1.0;
+      wrote = rw (lent_is ids a.at.ids, lent_is entries (4 * a.at.entries)) at u.close-unit.ensures;
+      ids-are = put_back ids a.at.ids lists.0;
+      entries-are = put_back entries (4 * a.at.entries) lists.1.0;
+      turned = x.unit-controls.ensures;
+      left_is =
+          c.leave-unit.ensures (marker_list a.markers.now) a.text.now a.outcomes.now
+          ∙ ap (λ (m : RuleEngineMode). left_under m q (members_at a.at a.journal.now) a.at u.close-unit.result
+          x.unit-controls.result) (mode-law q counts (mode_of_number a.call.mode) _ refl refl);
+    }
 
 pub finish-unit-spec : {M : Type 1} → statement M
 finish-unit-spec =

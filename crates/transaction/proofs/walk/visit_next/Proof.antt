@@ -1,10 +1,6 @@
 -- `transaction::walk::visit_next` meets its contract.
 use Prim.Native.Nat.{ℕ, ◌*◌}
-use mathlib.Core.Path.{◌∙◌, ap, ap₂, sym}
-use mathlib.Core.Bool.{Bool, cond}
-use Rattle.reading.specs.declared.Verdict.{Verdict}
-use Rattle.reading.specs.Walk.{verdict_by}
-use Rattle.unit.specs.VisitRule.{found_at}
+use mathlib.Core.Path.{◌∙◌, ap, sym}
 use mathlib.Core.List.{[], ◌∷◌}
 use native.Mathlib.Omega.{arith}
 use lib.Seq.{lt-length-set}
@@ -17,14 +13,8 @@ use borrow.Author.Rules.{rules}
 use Rattle.transaction.proofs.walk.visit_next.Statement.{statement}
 use Rattle.transaction.proofs.walk.visit_next.Tie as tie
 
-is-set-requires : tie.Need-is-set-requires
-is-set-requires c κs = search rules
-
-outcome-at-requires : tie.Need-outcome-at-requires
-outcome-at-requires c κs = search rules
-
-verdict-requires : tie.Need-verdict-requires
-verdict-requires c κs = search rules
+verdict-at-requires : tie.Need-verdict-at-requires
+verdict-at-requires c κs = search rules
 
 mul-place : tie.Need-overflow-mul-place
 mul-place c = search rules
@@ -46,7 +36,7 @@ mul-journal-2 c = search rules
 
 slice-write-journal-2 : tie.Need-slice-write-journal-2
 slice-write-journal-2 c =
-    let s = c.before.before.before.before.before.before.before.before in
+    let s = c.before.before.before.before.before.before in
     lt-length-set s.args.journal.now (2 * s.args.at.visits) _ (omega (arith, s.requires))
 
 visit-requires : tie.Need-visit-requires
@@ -57,12 +47,11 @@ same_length c = search rules
 
 returns : tie.Need-returns
 returns c =
-    let found = c.before.before.verdict.result in
+    let found = c.before.before.verdict-at.result in
     let number = c.before.verdict-number in
-    let s = c.before.before.before.before.before.before.before.before.before in
+    let s = c.before.before.before.before.before.before.before in
     let a = s.args in (
-      c.visit.ensures ∙ ap (found_at (rule_list a.rules.now) a.at.state a.at.visits)
-          (c.before.before.verdict.ensures ∙ ap₂ (λ (b : Bool) (o : ℕ). cond b Verdict.Removed (verdict_by o)) c.before.before.before.before.is_set.ensures c.before.before.before.outcome-at.ensures),
+      c.visit.ensures ∙ rw c.before.before.verdict-at.ensures,
       put-at (2 * a.at.visits) a.journal.now a.at.state.next number.result s.requires
           ∙ ap (λ (n : ℕ). at_free_end (2 * a.at.visits) a.journal.now (a.at.state.next ∷ n ∷ []))
           (number.ensures ∙ ap verdict_number
@@ -73,9 +62,7 @@ pub visit-next-spec : {M : Type 1} → statement M
 visit-next-spec =
     tie.close
     (tie.spec
-    is-set-requires
-    outcome-at-requires
-    verdict-requires
+    verdict-at-requires
     mul-place
     mul-journal
     slice-write-journal

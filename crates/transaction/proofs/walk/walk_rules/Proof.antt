@@ -7,11 +7,8 @@ use native.Mathlib.Omega.{arith}
 use borrow.Author.Tests.{not-true, not-false}
 use borrow.Author.Rules.{rules}
 use lib.ListN.{length}
-use Rattle.control.proofs.state.HeldLaws.{ranges-length}
 use Rattle.reading.specs.declared.OptionIntervention.{OptionIntervention}
-use Rattle.reading.specs.Records.{rule_list, marker_list, given_of}
-use Rattle.reading.specs.Controls.{range_list}
-use Rattle.removal.specs.Renewal.{Agrees}
+use Rattle.reading.specs.Records.{marker_list, given_of}
 use Rattle.reading.specs.Call.{Given}
 use Rattle.reading.specs.Walk.{verdict_at}
 use Rattle.control.specs.ControlsStruct.{controls_of}
@@ -22,9 +19,8 @@ use Rattle.unit.specs.VisitRule.{found_at}
 use Rattle.transaction.specs.declared.types.Phase.{Phase}
 use Rattle.transaction.specs.declared.types.WalkState.{WalkState}
 use Rattle.transaction.specs.declared.types.Transaction.{Transaction}
-use Rattle.transaction.specs.WalkRules.{WalkLists, walk_lists, fresh, Ready, Walked, UnitClosed, counts_in}
-use Rattle.transaction.specs.declared.types.AfterUnit.{AfterUnit}
-use Rattle.transaction.proofs.Found.{verdict-found, visit-found, kept_by, made-agrees, agrees-of}
+use Rattle.transaction.specs.WalkRules.{WalkLists, walk_lists, fresh, Ready, Walked, UnitClosed}
+use Rattle.transaction.proofs.Found.{verdict-found, visit-found}
 use Rattle.transaction.proofs.Progress.{Sofar, sofar-none, sofar-end, few-ranges, journal-same, ids-same, entries-same}
 use Rattle.transaction.proofs.Turn.{Turning, inside-rules, past-rules, journal-ahead, visits-fit, journal-long}
 use Rattle.transaction.proofs.Turn.{sofar-on, fewer-left-on, sofar-error, room-closed, ids-closed, entries-closed}
@@ -43,15 +39,14 @@ entry_by at starts ends phases positions = record {
 }
 
 abbrev invariant-loop : tie.invariant-loop
-invariant-loop call rules actions markers text outcomes codes ids₀ entries₀ journal₀ words₀ starts₀ ends₀ phases₀ positions₀
-    at₀ n ids entries journal words starts ends phases positions at =
+invariant-loop call rules actions markers text outcomes codes ids₀ entries₀ journal₀ starts₀ ends₀ phases₀ positions₀
+    at₀ n ids entries journal starts ends phases positions at =
     Sofar (given_of call rules actions (marker_list markers) text outcomes) (entry_by at₀ starts₀ ends₀ phases₀ positions₀) ids₀ entries₀ journal₀ ids entries journal (struct_of at.counts starts ends phases positions) at.counts.added at.state at.visits at.ids
     at.entries
-    × Agrees (rule_list rules) (range_list at.counts.ranges starts ends) words
 
 abbrev decreases-loop : tie.decreases-loop
-decreases-loop call rules actions markers text outcomes codes ids₀ entries₀ journal₀ words₀ starts₀ ends₀ phases₀ positions₀
-    at₀ n ids entries journal words starts ends phases positions at =
+decreases-loop call rules actions markers text outcomes codes ids₀ entries₀ journal₀ starts₀ ends₀ phases₀ positions₀
+    at₀ n ids entries journal starts ends phases positions at =
     length rules / 5 - at.state.next
 
 -- the journal is in memory
@@ -60,10 +55,10 @@ journal-small c = omega (arith, c.well-formed.1.1.1.1.1.1.1.1.1.1.0.1)
 
 -- earlier places, seen from later ones
 abbrev entered : tie.After-start invariant-loop decreases-loop → tie.Start invariant-loop decreases-loop
-entered c = c.before.before.before.before.before.before.before.before.before.before.before.before.before.before.before.before.before.before
+entered c = c.before.before.before.before.before.before.before.before.before.before.before.before.before.before
 
 abbrev turning : tie.After-visit-next invariant-loop decreases-loop → tie.Then1 invariant-loop decreases-loop
-turning c = c.before.before.before
+turning c = c.before.before.before.before
 
 abbrev head : tie.Then1 invariant-loop decreases-loop → tie.At-loop invariant-loop decreases-loop
 head c = c.before.before
@@ -72,7 +67,7 @@ abbrev visited : tie.After-is-error invariant-loop decreases-loop → tie.After-
 visited c = c.before.before.before.before
 
 abbrev closing : tie.After-finish-unit invariant-loop decreases-loop → tie.Else3 invariant-loop decreases-loop
-closing c = c.before.before.before.before.before.before.before.before.before
+closing c = c.before.before.before.before.before.before.before.before
 
 -- what is given, and the lists as lent
 abbrev given : tie.Start invariant-loop decreases-loop → Given
@@ -99,7 +94,7 @@ first-is c =
 
 ready : (c : tie.After-start invariant-loop decreases-loop) → Ready (Q c) (T c) (entered c).args.codes.now (lists (entered c))
 ready c =
-    subst (λ (t : Transaction). Ready (Q c) t (entered c).args.codes.now (lists (entered c))) (sym (first-is c)) (entered c).requires.0
+    subst (λ (t : Transaction). Ready (Q c) t (entered c).args.codes.now (lists (entered c))) (sym (first-is c)) (entered c).requires
 
 walked : (c : tie.After-start invariant-loop decreases-loop) (r : Phase) (l : WalkLists)
     → Walked (Q c) (T c) (lists (entered c)) r l → Walked (Q c) (fresh (entered c).args.t) (lists (entered c)) r l
@@ -131,7 +126,7 @@ turn_by c w found-is w-is = record {
   visits = (head c).loop.at.visits;
   listed = (head c).loop.at.ids;
   written = (head c).loop.at.entries;
-  so = (head c).loop.invariant.0;
+  so = (head c).loop.invariant;
   inside = inside-rules (entered (head c).before).args.rules.now (head c).loop.at.state.next c.if1.true;
   found = w.verdict;
   found-is = found-is;
@@ -144,27 +139,21 @@ few c =
     few-ranges (Q c.before) (T c.before) (entered c.before).args.codes.now (entered c.before).args.ids.now
     (entered c.before).args.entries.now (entered c.before).args.journal.now (ready c.before)
     c.loop.ids c.loop.entries c.loop.journal (held_at c) c.loop.at.counts.added c.loop.at.state c.loop.at.visits c.loop.at.ids
-    c.loop.at.entries c.loop.invariant.0
-
--- its rule is one of 512
-inside-bits : (c : tie.Then1 invariant-loop decreases-loop) → (head c).loop.at.state.next < 512
-inside-bits c =
-    let h = head c in
-    omega (arith, (ready h.before).rules, inside-rules (entered h.before).args.rules.now h.loop.at.state.next c.if1.true)
+    c.loop.at.entries c.loop.invariant
 
 -- the turn, where its rule has been visited
 abbrev turn : (c : tie.After-visit-next invariant-loop decreases-loop) → Turning
 turn c =
     let h = head (turning c) in
     turn_by (turning c) c.visit-next.result
-    (verdict-found (Q h.before) (held_at h) h.loop.words h.loop.at.state h.loop.at.visits (inside-bits (turning c)) h.loop.inv.1
-    c.visit-next.result c.visit-next.ensures.0)
-    (visit-found (Q h.before) (held_at h) h.loop.words h.loop.at.state h.loop.at.visits (inside-bits (turning c)) h.loop.inv.1
-    c.visit-next.result c.visit-next.ensures.0)
+    (verdict-found (Q h.before) (held_at h) h.loop.at.state h.loop.at.visits (few h) h.loop.inv.merged c.visit-next.result
+    c.visit-next.ensures.0)
+    (visit-found (Q h.before) (held_at h) h.loop.at.state h.loop.at.visits (few h) h.loop.inv.merged c.visit-next.result
+    c.visit-next.ensures.0)
 
 -- the journal with its visit
 abbrev journal-with : (c : tie.After-visit-next invariant-loop decreases-loop) → List ℕ
-journal-with c = c.visit-next.new.1.1.1.1.0
+journal-with c = c.visit-next.new.1.1.1.1.1.0
 
 -- the lists at the head of a turn
 journal-as-lent : (c : tie.At-loop invariant-loop decreases-loop) → length c.loop.journal ≡ length (entered c.before).args.journal.now
@@ -173,7 +162,7 @@ journal-as-lent c =
     (Q c.before) (T c.before) (entered c.before).args.codes.now (entered c.before).args.ids.now
     (entered c.before).args.entries.now (entered c.before).args.journal.now (ready c.before)
     c.loop.ids c.loop.entries c.loop.journal (held_at c) c.loop.at.counts.added c.loop.at.state c.loop.at.visits c.loop.at.ids
-    c.loop.at.entries c.loop.invariant.0
+    c.loop.at.entries c.loop.invariant
 
 ids-as-lent : (c : tie.At-loop invariant-loop decreases-loop) → length c.loop.ids ≡ length (entered c.before).args.ids.now
 ids-as-lent c =
@@ -181,7 +170,7 @@ ids-as-lent c =
     (Q c.before) (T c.before) (entered c.before).args.codes.now (entered c.before).args.ids.now
     (entered c.before).args.entries.now (entered c.before).args.journal.now (ready c.before)
     c.loop.ids c.loop.entries c.loop.journal (held_at c) c.loop.at.counts.added c.loop.at.state c.loop.at.visits c.loop.at.ids
-    c.loop.at.entries c.loop.invariant.0
+    c.loop.at.entries c.loop.invariant
 
 entries-as-lent : (c : tie.At-loop invariant-loop decreases-loop) → length c.loop.entries ≡ length (entered c.before).args.entries.now
 entries-as-lent c =
@@ -189,10 +178,7 @@ entries-as-lent c =
     (Q c.before) (T c.before) (entered c.before).args.codes.now (entered c.before).args.ids.now
     (entered c.before).args.entries.now (entered c.before).args.journal.now (ready c.before)
     c.loop.ids c.loop.entries c.loop.journal (held_at c) c.loop.at.counts.added c.loop.at.state c.loop.at.visits c.loop.at.ids
-    c.loop.at.entries c.loop.invariant.0
-
-mark-held-requires : tie.Need-mark-held-requires invariant-loop decreases-loop
-mark-held-requires c κs = tt
+    c.loop.at.entries c.loop.invariant
 
 start-requires : tie.Need-start-requires invariant-loop decreases-loop
 start-requires c κs = tt
@@ -200,23 +186,18 @@ start-requires c κs = tt
 loop-holds : tie.Need-loop-init invariant-loop decreases-loop
 loop-holds c =
     let a = (entered c).args in
-    let made = c.before.mark-held in
-    let few : a.t.controls.ranges ≤ 256 = omega (arith, (entered c).requires.0.ranges, ranges-length a.t.controls) in
     subst (λ (r : WalkState). Sofar (Q c) (T c) a.ids.now a.entries.now a.journal.now a.ids.now a.entries.now
-    a.journal.now (T c).controls r.counts.added r.state r.visits (T c).ids (T c).entries
-    × Agrees (rule_list a.rules.now) (range_list r.counts.ranges a.t.controls.starts a.t.controls.ends) made.new.1.1.1.1.0) (sym c.start.ensures) (
-      sofar-none (Q c) (T c) a.codes.now a.ids.now a.entries.now a.journal.now (ready c),
-      made-agrees (rule_list a.rules.now) a.t.controls a.words.now _ few (entered c).requires.0.merged (entered c).requires.1 made.ensures,
-    )
+    a.journal.now (T c).controls r.counts.added r.state r.visits (T c).ids (T c).entries) (sym c.start.ensures)
+    (sofar-none (Q c) (T c) a.codes.now a.ids.now a.entries.now a.journal.now (ready c))
 
 visit-next-requires : tie.Need-visit-next-requires invariant-loop decreases-loop
 visit-next-requires c κs =
-    let h = c.before.before.before.before in
+    let h = c.before.before.before.before.before in
     let a = (entered h.before).args in
     journal-ahead (Q h.before) (T h.before) a.codes.now a.ids.now a.entries.now a.journal.now
     (ready h.before) refl h.loop.ids h.loop.entries h.loop.journal (held_at h) h.loop.at.counts.added h.loop.at.state
-    h.loop.at.visits h.loop.at.ids h.loop.at.entries h.loop.invariant.0
-    (inside-rules a.rules.now h.loop.at.state.next c.before.before.if1.true)
+    h.loop.at.visits h.loop.at.ids h.loop.at.entries h.loop.invariant
+    (inside-rules a.rules.now h.loop.at.state.next c.before.before.before.if1.true)
 
 add_at : tie.Need-overflow-add-at invariant-loop decreases-loop
 add_at c = let v = c.before.before.before in visits-fit (turn v) (journal-small (entered (head (turning v)).before))
@@ -245,12 +226,9 @@ returns : tie.Need-returns invariant-loop decreases-loop
 returns c =
     let e = c.before.before.before in
     let v = visited e in
-    let h = head (turning v) in
-    rw (c.ended.ensures, c.before.end-at.ensures) (
-      walked h.before _ _
-          (sofar-error (turn v) (journal-with v) v.visit-next.ensures.1 (sym e.is-error.ensures ∙ c.before.before.if2.true)),
-      agrees-of _ (held_at h) h.loop.words h.loop.inv.1,
-    )
+    rw (c.ended.ensures, c.before.end-at.ensures)
+    (walked (head (turning v)).before _ _
+    (sofar-error (turn v) (journal-with v) v.visit-next.ensures.1 (sym e.is-error.ensures ∙ c.before.before.if2.true)))
 
 -- NO UNIT IS CLOSED
 
@@ -263,11 +241,9 @@ loop-less c =
 loop-again : tie.Need-loop-preserved invariant-loop decreases-loop
 loop-again c =
     let e = c.before.before.before.before in
-    let v = visited e in (
-      sofar-on (turn v) (journal-with v) v.visit-next.ensures.1 (not-true v.visit-next.result.closes c.if3.true)
-          (sym e.is-error.ensures ∙ c.before.before.before.if2.false),
-      (head (turning v)).loop.inv.1,
-    )
+    let v = visited e in
+    sofar-on (turn v) (journal-with v) v.visit-next.ensures.1 (not-true v.visit-next.result.closes c.if3.true)
+    (sym e.is-error.ensures ∙ c.before.before.before.if2.false)
 
 -- A UNIT IS CLOSED
 
@@ -279,7 +255,7 @@ closes c = not-false (at-else c).visit-next.result.closes c.if3.false
 
 finish-unit-requires : tie.Need-finish-unit-requires invariant-loop decreases-loop
 finish-unit-requires c κs =
-    let x = c.before.before.before.before.before.before.before.before in
+    let x = c.before.before.before.before.before.before.before in
     let v = at-else x in
     let l = (head (turning v)).loop in
     room-closed (turn v) (journal-with v) v.visit-next.ensures.1 (closes x) l.at.counts l.starts l.ends l.phases
@@ -295,17 +271,7 @@ unit-closed : (c : tie.After-finish-unit invariant-loop decreases-loop)
     (record { state = w.after; visits = l.at.visits + 1; ids = l.at.ids; entries = l.at.entries; counts = l.at.counts })
     l.ids l.entries (journal-with v) l.starts l.ends l.phases l.positions c.finish-unit.result
     after.0 after.1.0 after.1.1.1.0 after.1.1.1.1.0 after.1.1.1.1.1.0 after.1.1.1.1.1.1.0)
-unit-closed c = c.finish-unit.ensures.0
-
--- and the bits, renewed with its controls
-unit-renewed : (c : tie.After-finish-unit invariant-loop decreases-loop)
-    → (let l = (head (turning (at-else (closing c)))).loop in
-    let after = c.finish-unit.new.1.1.1.1.1.1.1.1 in
-    Agrees (rule_list (entered (head (turning (at-else (closing c)))).before).args.rules.now)
-    (range_list (counts_in c.finish-unit.result).ranges after.1.1.1.0 after.1.1.1.1.0) after.1.1.1.1.1.1.1.0)
-unit-renewed c =
-    let h = head (turning (at-else (closing c))) in
-    (c.finish-unit.ensures.1 (kept_by _ (held_at h) h.loop.words (few h) h.loop.inv.0.merged h.loop.inv.1)).agrees
+unit-closed c = c.finish-unit.ensures
 
 enum-known-left : tie.Need-enum-known-left invariant-loop decreases-loop
 enum-known-left c = search rules
@@ -343,15 +309,10 @@ returns-2 c =
     let x = closing k in
     let v = at-else x in
     let l = (head (turning v)).loop in
-    let after = k.finish-unit.new.1.1.1.1.1.1.1.1 in
-    let end = c.before.before.left2.given.1 in
-    rw c.ended2.ensures (
-      walked (head (turning v)).before _ _
-          (walked-closed (turn v) (journal-with v) v.visit-next.ensures.1 (closes x) l.at.counts l.starts l.ends l.phases
-          l.positions refl refl _ _ _ _ _ _ _ (unit-closed k) _ end),
-      agrees-of _ (struct_of c.before.before.left2.given.0.0.at.counts after.1.1.1.0 after.1.1.1.1.0 after.1.1.1.1.1.0 after.1.1.1.1.1.1.0) _
-          (subst (λ (r : AfterUnit). Agrees (rule_list (entered (head (turning v)).before).args.rules.now) (range_list (counts_in r).ranges after.1.1.1.0 after.1.1.1.1.0) after.1.1.1.1.1.1.1.0) end (unit-renewed k)),
-    )
+    rw c.ended2.ensures
+    (walked (head (turning v)).before _ _
+    (walked-closed (turn v) (journal-with v) v.visit-next.ensures.1 (closes x) l.at.counts l.starts l.ends l.phases
+    l.positions refl refl _ _ _ _ _ _ _ (unit-closed k) _ c.before.before.left2.given.1))
 
 loop-less-2 : tie.Need-loop-smaller-2 invariant-loop decreases-loop
 loop-less-2 c =
@@ -369,12 +330,8 @@ loop-again-2 c =
     let x = closing k in
     let v = at-else x in
     let l = (head (turning v)).loop in
-    let after = k.finish-unit.new.1.1.1.1.1.1.1.1 in
-    let next = c.before.left.given.1 in (
-      sofar-closed (turn v) (journal-with v) v.visit-next.ensures.1 (closes x) l.at.counts l.starts l.ends l.phases
-          l.positions refl refl _ _ _ _ _ _ _ (unit-closed k) _ next,
-      subst (λ (r : AfterUnit). Agrees (rule_list (entered (head (turning v)).before).args.rules.now) (range_list (counts_in r).ranges after.1.1.1.0 after.1.1.1.1.0) after.1.1.1.1.1.1.1.0) next (unit-renewed k),
-    )
+    sofar-closed (turn v) (journal-with v) v.visit-next.ensures.1 (closes x) l.at.counts l.starts l.ends l.phases
+    l.positions refl refl _ _ _ _ _ _ _ (unit-closed k) _ c.before.left.given.1
 
 -- NO RULE IS LEFT
 
@@ -397,14 +354,12 @@ returns-3 : tie.Need-returns-3 invariant-loop decreases-loop
 returns-3 c =
     let h = c.before.before.before.before in
     let a = (entered h.before).args in
-    rw (c.ended3.ensures, c.before.end-at2.ensures) (
-      walked h.before _ _
-          (sofar-end (Q h.before) (T h.before) a.ids.now a.entries.now a.journal.now
-          h.loop.ids h.loop.entries h.loop.journal (held_at h) h.loop.at.counts.added h.loop.at.state h.loop.at.visits h.loop.at.ids
-          h.loop.at.entries h.loop.invariant.0
-          (past-rules a.rules.now h.loop.at.state.next c.before.before.if1.false)),
-      agrees-of _ (held_at h) h.loop.words h.loop.invariant.1,
-    )
+    rw (c.ended3.ensures, c.before.end-at2.ensures)
+    (walked h.before _ _
+    (sofar-end (Q h.before) (T h.before) a.ids.now a.entries.now a.journal.now
+    h.loop.ids h.loop.entries h.loop.journal (held_at h) h.loop.at.counts.added h.loop.at.state h.loop.at.visits h.loop.at.ids
+    h.loop.at.entries h.loop.invariant
+    (past-rules a.rules.now h.loop.at.state.next c.before.before.if1.false)))
 
 pub walk-rules-spec : {M : Type 1} → statement M
 walk-rules-spec =
@@ -412,7 +367,6 @@ walk-rules-spec =
     (tie.spec
     invariant-loop
     decreases-loop
-    mark-held-requires
     start-requires
     loop-holds
     visit-next-requires

@@ -1,2 +1,0 @@
-pub mod HitLaws
-pub mod RenewLaws

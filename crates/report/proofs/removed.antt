@@ -1,3 +1,0 @@
-pub mod Owned
-pub mod TellLaws
-pub mod Told
