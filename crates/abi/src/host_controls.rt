@@ -9,7 +9,7 @@ use reading::limits;
 
 // The settings by number, 0 where one is not set, and the arrays with how many of their places are in use.
 #[repr(C)]
-#[derive(Drop)]
+#[derive(Clone, Copy)]
 pub struct HostControls {
     // 0 not set, 1 On, 2 DetectionOnly, 3 Off.
     pub mode: u64,

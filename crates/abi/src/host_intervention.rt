@@ -9,7 +9,7 @@ use reading::{Intervention, OptionIntervention, OptionPlace, OptionU64, RuleMeta
 
 // The metadata of the rule that started the unit: the last action of each kind.
 #[repr(C)]
-#[derive(Drop)]
+#[derive(Clone, Copy)]
 pub struct HostMetadata {
     pub id: HostNumber,
     pub msg: HostPlace,
@@ -23,7 +23,7 @@ pub struct HostMetadata {
 
 // An intervention or none.
 #[repr(C)]
-#[derive(Drop)]
+#[derive(Clone, Copy)]
 pub struct HostIntervention {
     // 1 where there is an intervention, else 0.
     pub present: u64,

@@ -22,7 +22,7 @@ use transaction::{outcome, run_phase};
 
 // A transaction as a host lends it.
 #[repr(C)]
-#[derive(Drop)]
+#[derive(Clone, Copy)]
 pub struct HostTransaction {
     // What directives have set.
     pub controls: HostControls,
@@ -37,7 +37,7 @@ pub struct HostTransaction {
 }
 
 // The answer, and the record after the call.
-#[derive(Drop)]
+#[derive(Clone, Copy)]
 pub struct HostPhase {
     pub answer: Answer,
     pub transaction: HostTransaction,

@@ -15,7 +15,7 @@ const MOST_RULES: u64 = limits::RULES as u64;
 
 // What the question answers: 0, or the number of a refusal; 1 and the position where there is a marker of the name, else twice 0.
 #[repr(C)]
-#[derive(Drop)]
+#[derive(Clone, Copy)]
 pub struct HostMarker {
     // 0 or a refusal's number.
     pub answer: u64,

@@ -10,7 +10,7 @@ pub const ROOM: usize = limits::MARKERS + 1;
 pub const NUMBERS: usize = widths::MARKER * ROOM;
 
 // Three numbers a marker, of as many markers as there is room for, and zeros after them; and how many markers there are.
-#[derive(Drop)]
+#[derive(Clone, Copy)]
 pub struct MarkerWords {
     pub words: [u64; NUMBERS],
     pub count: usize,

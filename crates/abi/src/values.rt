@@ -13,7 +13,7 @@ use reading::{
 
 // A number or none: `present` is 1 or 0.
 #[repr(C)]
-#[derive(Drop)]
+#[derive(Clone, Copy)]
 pub struct HostNumber {
     // 1 where there is a number, else 0.
     pub present: u64,
@@ -22,7 +22,7 @@ pub struct HostNumber {
 
 // A place or none.
 #[repr(C)]
-#[derive(Drop)]
+#[derive(Clone, Copy)]
 pub struct HostPlace {
     // 1 where there is a place, else 0.
     pub present: u64,

@@ -167,7 +167,7 @@ fn metadata_at(actions: &[u64], phase: u64, last: [u64; 19]) -> RuleMetadata
 }
 
 // What a rule's actions come to; `controls` is how many control actions it has.
-#[derive(Drop)]
+#[derive(Clone, Copy)]
 pub struct RuleActions {
     pub disruptive: DisruptiveOutcome,
     pub flow: FlowOutcome,

@@ -14,7 +14,7 @@ use text::trim;
 
 // What of the controls is passed by value: their settings, and how many places of their arrays are in use. The four arrays
 // are lent beside it, so that nothing of them is copied.
-#[derive(Drop)]
+#[derive(Clone, Copy)]
 pub struct ControlCounts {
     pub settings: Settings,
     pub ranges: usize,

@@ -1,4 +1,6 @@
 // What a closed unit does to the controls: `TransactionControls::apply` in engine/control.rs.
+#![tactic(auto)]
+
 pub mod append;
 pub mod changes;
 pub mod codes;

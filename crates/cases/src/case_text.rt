@@ -6,7 +6,7 @@ use reading::{Action, Number, Part, RuleIdRange};
 use text::span;
 
 // The case that is read: its settings, and how many records its lists hold.
-#[derive(Drop)]
+#[derive(Clone, Copy)]
 pub struct Case {
     // Whether something was written before.
     pub started: bool,
@@ -26,19 +26,19 @@ pub struct Case {
 }
 
 // What a line leads to.
-#[derive(Drop)]
+#[derive(Clone, Copy)]
 pub enum Step {
     Bad,
     Next(Case),
 }
 
-#[derive(Drop)]
+#[derive(Clone, Copy)]
 pub enum Read {
     Bad,
     Action(Action),
 }
 
-#[derive(Drop)]
+#[derive(Clone, Copy)]
 pub enum Text {
     Bad,
     Part(Part),

@@ -12,7 +12,7 @@ use ruleset::rules;
 use text::{ascii, span};
 
 // What stands after the last visit.
-#[derive(Drop)]
+#[derive(Clone, Copy)]
 pub enum Words {
     Nothing,
     Stops,
@@ -20,7 +20,7 @@ pub enum Words {
 }
 
 // How many places of a column are free, and what stands in front of its next text: 0 nothing, 1 a link, 2 an action.
-#[derive(Drop)]
+#[derive(Clone, Copy)]
 struct Column {
     left: usize,
     before: u64,

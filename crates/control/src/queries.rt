@@ -14,13 +14,13 @@ use reading::{
 };
 
 // The answers to questions: 0 and the value, or 3.
-#[derive(Drop)]
+#[derive(Clone, Copy)]
 pub struct ModeAnswer {
     pub answer: u64,
     pub mode: RuleEngineMode,
 }
 
-#[derive(Drop)]
+#[derive(Clone, Copy)]
 pub struct RemovedAnswer {
     pub answer: u64,
     pub removed: bool,
@@ -61,13 +61,13 @@ pub fn is_rule_removed(c: Controls, id: OptionU64) -> RemovedAnswer
 }
 
 // The answers to questions: 0 and the value, or 3.
-#[derive(Drop)]
+#[derive(Clone, Copy)]
 pub struct CountAnswer {
     pub answer: u64,
     pub count: usize,
 }
 
-#[derive(Drop)]
+#[derive(Clone, Copy)]
 pub struct TargetAnswer {
     pub answer: u64,
     pub target: OptionPlace,
@@ -119,13 +119,13 @@ pub fn target_at(c: Controls, at: usize) -> TargetAnswer
 }
 
 // The answers to questions: 0 and the value, or 3.
-#[derive(Drop)]
+#[derive(Clone, Copy)]
 pub struct AccessAnswer {
     pub answer: u64,
     pub access: BodyAccess,
 }
 
-#[derive(Drop)]
+#[derive(Clone, Copy)]
 pub struct ProcessorAnswer {
     pub answer: u64,
     pub processor: ProcessorSetting,

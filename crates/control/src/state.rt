@@ -12,7 +12,7 @@ use reading::{
 };
 
 // The mode, the body access and the body processor, each set or not.
-#[derive(Drop)]
+#[derive(Clone, Copy)]
 pub struct Settings {
     pub mode: ModeSetting,
     pub access: AccessSetting,
@@ -21,7 +21,7 @@ pub struct Settings {
 
 // `ranges` and `targets` say how many places of the arrays are in use, from the start. The ranges have the merged form of the module
 // ranges.
-#[derive(Drop)]
+#[derive(Clone, Copy)]
 pub struct Controls {
     pub settings: Settings,
     pub starts: [u64; limits::RANGES],
@@ -33,7 +33,7 @@ pub struct Controls {
 }
 
 // The controls after an addition, with its answer.
-#[derive(Drop)]
+#[derive(Clone, Copy)]
 pub struct ChangeAnswer {
     pub answer: u64,
     pub controls: Controls,

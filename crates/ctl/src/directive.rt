@@ -114,7 +114,7 @@ fn request_body_processor(value: &[u8]) -> CtlDirective
 }
 
 // Where the value of a target directive is cut, if it is a target.
-#[derive(Drop)]
+#[derive(Clone, Copy)]
 enum TargetCut {
     Unsupported,
     At(usize),

@@ -9,7 +9,7 @@ ghost use Rattle.ctl.specs.Scan.{is_after_digits, has_digits, part_start, with_s
 use text::trim;
 
 // How far into a number the pass is: before it, after its '+', in its digits, in the blanks after it.
-#[derive(Drop)]
+#[derive(Clone, Copy)]
 pub enum Stage {
     Start,
     Plus,
@@ -19,7 +19,7 @@ pub enum Stage {
 
 // What is seen of a part between commas: whether its first '-' is passed, the number before that one, and how far into the
 // number at hand the pass is, with the value of its digits so far.
-#[derive(Drop)]
+#[derive(Clone, Copy)]
 pub struct PartState {
     pub second: bool,
     pub first: u64,
@@ -28,21 +28,21 @@ pub struct PartState {
 }
 
 // What is seen with one byte more, or that the part is bad, whatever follows.
-#[derive(Drop)]
+#[derive(Clone, Copy)]
 pub enum Step {
     Next(PartState),
     Bad,
 }
 
 // How many ranges a part counts as where it ends.
-#[derive(Drop)]
+#[derive(Clone, Copy)]
 pub enum PartEnd {
     Counts(usize),
     Bad,
 }
 
 // How many ranges a supported list has.
-#[derive(Drop)]
+#[derive(Clone, Copy)]
 pub enum RangeCount {
     Unsupported,
     Ranges(usize),

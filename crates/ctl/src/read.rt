@@ -22,7 +22,7 @@ fn range_count(directive: CtlDirective) -> usize
 }
 
 // What the reader answers: 0 with the directive, or why the call is refused (2, 6 or 7) and none.
-#[derive(Drop)]
+#[derive(Clone, Copy)]
 pub struct ReadAnswer {
     pub answer: u64,
     pub directive: OptionDirective,

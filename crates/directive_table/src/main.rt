@@ -3,6 +3,8 @@
 // A row is seven numbers of five digits, each with one byte after it: the lengths of name and value
 // in the row, how many fill bytes stand before each of them in its text, the fill byte, and the lengths
 // of the two lists; then name and value, and one byte more. oracle/make-directive-table writes the table.
+#![tactic(auto)]
+
 ghost use Rattle.std.specs.Prelude.{◌≤◌};
 ghost use Rattle.io.specs.Counts.{IsPrefixLen};
 
@@ -20,7 +22,7 @@ const START: u64 = 12297829382473034410;
 const END: u64 = 6148914691236517205;
 
 // The numbers of a row.
-#[derive(Drop)]
+#[derive(Clone, Copy)]
 struct Row {
     name: usize,
     value: usize,

@@ -10,7 +10,7 @@ use reading::{CtlDirective, OptionDirective};
 
 // What the reader answers, the number of the directive's form, and its value.
 #[repr(C)]
-#[derive(Drop)]
+#[derive(Clone, Copy)]
 pub struct ReadRecord {
     // 0 or a refusal's number.
     pub answer: u64,

@@ -15,7 +15,7 @@ use reading::OptionPlace;
 
 // The answer to a question: 0 and the number of a value, or the number of a refusal and 0.
 #[repr(C)]
-#[derive(Drop)]
+#[derive(Clone, Copy)]
 pub struct HostQueryAnswer {
     // 0 or a refusal's number.
     pub answer: u64,
@@ -25,7 +25,7 @@ pub struct HostQueryAnswer {
 
 // The same where the value is a target.
 #[repr(C)]
-#[derive(Drop)]
+#[derive(Clone, Copy)]
 pub struct HostTarget {
     // 0 or a refusal's number.
     pub answer: u64,

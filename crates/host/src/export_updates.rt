@@ -12,7 +12,7 @@ use reading::{Place, RuleIdRange};
 
 // The record after an addition, with its answer.
 #[repr(C)]
-#[derive(Drop)]
+#[derive(Clone, Copy)]
 pub struct HostChangeAnswer {
     // 0 or a refusal's number.
     pub answer: u64,

@@ -1,4 +1,6 @@
 // What C and Rust call. None of these functions asks anything of what it is lent.
+#![tactic(auto)]
+
 pub mod export_directive;
 pub mod export_markers;
 pub mod export_phase;

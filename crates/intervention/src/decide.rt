@@ -7,7 +7,7 @@ ghost use Rattle.intervention.specs.EndOfVisit.{end_by};
 use reading::{DisruptiveOutcome, RuleEngineMode};
 
 // How a visit leaves the phase.
-#[derive(Drop)]
+#[derive(Clone, Copy)]
 pub enum Ending {
     GoesOn,
     Allows,

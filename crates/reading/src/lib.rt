@@ -1,12 +1,14 @@
 // The enums and structs that the definitions in specs/ and the code of the crates above share.
 // There is no function here. Lists are lent as records of plain numbers: what such a record may hold
 // is refusal 5's matter, so an unknown number is a value like any other.
+#![tactic(auto)]
+
 pub mod kinds;
 pub mod limits;
 pub mod widths;
 
 // The engine's mode (`RuleEngineMode`).
-#[derive(Drop)]
+#[derive(Clone, Copy)]
 pub enum RuleEngineMode {
     On,
     DetectionOnly,
@@ -14,14 +16,14 @@ pub enum RuleEngineMode {
 }
 
 // The values of `ctl:requestBodyAccess`.
-#[derive(Drop)]
+#[derive(Clone, Copy)]
 pub enum BodyAccess {
     On,
     Off,
 }
 
 // The values of `ctl:requestBodyProcessor`.
-#[derive(Drop)]
+#[derive(Clone, Copy)]
 pub enum BodyProcessor {
     Urlencoded,
     Multipart,
@@ -30,49 +32,49 @@ pub enum BodyProcessor {
 }
 
 // A mode that a directive set, or none.
-#[derive(Drop)]
+#[derive(Clone, Copy)]
 pub enum ModeSetting {
     Unset,
     Set(RuleEngineMode),
 }
 
 // A body access that a directive set, or none.
-#[derive(Drop)]
+#[derive(Clone, Copy)]
 pub enum AccessSetting {
     Unset,
     Set(BodyAccess),
 }
 
 // A body processor that a directive set, or none.
-#[derive(Drop)]
+#[derive(Clone, Copy)]
 pub enum ProcessorSetting {
     Unset,
     Set(BodyProcessor),
 }
 
 // A number or none: an id, a severity, a marker's position.
-#[derive(Drop)]
+#[derive(Clone, Copy)]
 pub enum OptionU64 {
     None,
     Some(u64),
 }
 
 // A number read from a text.
-#[derive(Drop)]
+#[derive(Clone, Copy)]
 pub enum Number {
     Bad,
     Value(u64),
 }
 
 // Removed ids from `start` to `end`, both included.
-#[derive(Drop)]
+#[derive(Clone, Copy)]
 pub struct RuleIdRange {
     pub start: u64,
     pub end: u64,
 }
 
 // One part of a list of id ranges, between two commas.
-#[derive(Drop)]
+#[derive(Clone, Copy)]
 pub enum IdPart {
     Blank,
     Bad,
@@ -82,7 +84,7 @@ pub enum IdPart {
 // Why a directive is unsupported, by its name (the reasons of `CtlDirective::parse`): the value of a
 // ruleEngine, the ids of a ruleRemoveById, the form of a ruleRemoveTargetById, the value of a
 // requestBodyAccess, the name of a requestBodyProcessor, a directive of the audit log, or none of these.
-#[derive(Drop)]
+#[derive(Clone, Copy)]
 pub enum UnsupportedReason {
     ModeValue,
     IdList,
@@ -96,7 +98,7 @@ pub enum UnsupportedReason {
 // What a directive says. The ranges of `RuleRemoveById` stand at the start of the
 // lent lists, and the number here says how many; the number of `RuleRemoveTargetById` says where
 // in the value the ';' stands.
-#[derive(Drop)]
+#[derive(Clone, Copy)]
 pub enum CtlDirective {
     RuleEngine(RuleEngineMode),
     RuleRemoveById(usize),
@@ -107,7 +109,7 @@ pub enum CtlDirective {
 }
 
 // A directive that was read, or none: a refused call of the reader has none, and so no reason.
-#[derive(Drop)]
+#[derive(Clone, Copy)]
 pub enum OptionDirective {
     None,
     Some(CtlDirective),
@@ -115,7 +117,7 @@ pub enum OptionDirective {
 
 // A part of a lent text.
 #[repr(C)]
-#[derive(Drop)]
+#[derive(Clone, Copy)]
 pub struct Part {
     // Its first byte.
     pub start: u64,
@@ -124,13 +126,13 @@ pub struct Part {
 }
 
 // Where a text or a target stands: the phase, and the position in that phase's action list.
-#[derive(Drop)]
+#[derive(Clone, Copy)]
 pub struct Place {
     pub phase: u64,
     pub position: u64,
 }
 
-#[derive(Drop)]
+#[derive(Clone, Copy)]
 pub enum OptionPlace {
     None,
     Some(Place),
@@ -138,7 +140,7 @@ pub enum OptionPlace {
 
 // The numbers that a call is given: the phase, the rule set's mode, and the caller's default status, which a block has.
 #[repr(C)]
-#[derive(Drop)]
+#[derive(Clone, Copy)]
 pub struct CallSettings {
     // 1 to 5.
     pub phase: u64,
@@ -150,7 +152,7 @@ pub struct CallSettings {
 
 // A rule's record. `present` is 1 where the rule has an id and 0 where it has none, `link` is
 // `is_chain`, and its actions are the `count` from `first` on.
-#[derive(Drop)]
+#[derive(Clone, Copy)]
 pub struct Rule {
     // 1 where it has an id, else 0.
     pub present: u64,
@@ -164,7 +166,7 @@ pub struct Rule {
 }
 
 // An action's record: its kind, its number, and two parts of the lent text.
-#[derive(Drop)]
+#[derive(Clone, Copy)]
 pub struct Action {
     // 01's number of the kind.
     pub kind: u64,
@@ -178,7 +180,7 @@ pub struct Action {
 
 // A marker's record: its name, and the number of the phase's rules before it.
 #[repr(C)]
-#[derive(Drop)]
+#[derive(Clone, Copy)]
 pub struct Marker {
     // Where its name stands.
     pub name: Part,
@@ -187,7 +189,7 @@ pub struct Marker {
 }
 
 // An entry of the list of matched data. `present` is 1 where it has an id.
-#[derive(Drop)]
+#[derive(Clone, Copy)]
 pub struct DataEntry {
     // 1 where it has an id, else 0.
     pub present: u64,
@@ -199,7 +201,7 @@ pub struct DataEntry {
 }
 
 // An entry of the journal: a visited rule's index and the number of the verdict.
-#[derive(Drop)]
+#[derive(Clone, Copy)]
 pub struct JournalEntry {
     // The rule's index.
     pub index: u64,
@@ -209,7 +211,7 @@ pub struct JournalEntry {
 
 // An unsupported directive that a phase passed over: the rule that has it, and why. Both are 0 where there is none.
 #[repr(C)]
-#[derive(Drop)]
+#[derive(Clone, Copy)]
 pub struct UnsupportedAt {
     // The index of the rule that has it.
     pub index: u64,
@@ -219,7 +221,7 @@ pub struct UnsupportedAt {
 
 // What a phase tells besides: how many of its visits found each verdict, and the first unsupported directive of its closed units.
 #[repr(C)]
-#[derive(Drop)]
+#[derive(Clone, Copy)]
 pub struct Report {
     // How many visits missed.
     pub missed: u64,
@@ -234,7 +236,7 @@ pub struct Report {
 }
 
 // What a visit finds of its rule.
-#[derive(Drop)]
+#[derive(Clone, Copy)]
 pub enum Verdict {
     Missed,
     Matched,
@@ -244,7 +246,7 @@ pub enum Verdict {
 
 // A rule's last disruptive action, or none (`DisruptiveOutcome`). A redirect has its position in
 // the action list.
-#[derive(Drop)]
+#[derive(Clone, Copy)]
 pub enum DisruptiveOutcome {
     Nothing,
     Deny,
@@ -256,7 +258,7 @@ pub enum DisruptiveOutcome {
 }
 
 // A rule's last flow action (`FlowOutcome`). `SkipAfter` has its position in the action list.
-#[derive(Drop)]
+#[derive(Clone, Copy)]
 pub enum FlowOutcome {
     Continue,
     Chain,
@@ -265,7 +267,7 @@ pub enum FlowOutcome {
 }
 
 // A rule's metadata (`RuleMetadata`): the last of each kind.
-#[derive(Drop)]
+#[derive(Clone, Copy)]
 pub struct RuleMetadata {
     pub id: OptionU64,
     pub msg: OptionPlace,
@@ -279,7 +281,7 @@ pub struct RuleMetadata {
 
 // What stops a request (`Intervention`). Its id list is `closing`, the closing rule's id, and then
 // `starter`, the starter's metadata id, which is none where it is the same.
-#[derive(Drop)]
+#[derive(Clone, Copy)]
 pub struct Intervention {
     pub status: u64,
     pub url: OptionPlace,
@@ -291,7 +293,7 @@ pub struct Intervention {
     pub metadata: RuleMetadata,
 }
 
-#[derive(Drop)]
+#[derive(Clone, Copy)]
 pub enum OptionIntervention {
     None,
     Some(Intervention),

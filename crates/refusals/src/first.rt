@@ -11,7 +11,7 @@ use reading::{CallSettings, limits, widths};
 use text::high_bytes;
 
 // How many records, text bytes and outcomes a call lends.
-#[derive(Drop)]
+#[derive(Clone, Copy)]
 pub struct Counts {
     pub rules: usize,
     pub actions: usize,
@@ -21,7 +21,7 @@ pub struct Counts {
 }
 
 // What the transaction counts, and how many entries the lists have that it counts. Whether refusal 3 meets the controls is known by then.
-#[derive(Drop)]
+#[derive(Clone, Copy)]
 pub struct Sizes {
     pub bad_controls: bool,
     pub ids_used: usize,
@@ -31,7 +31,7 @@ pub struct Sizes {
 }
 
 // How many entries the lists have that begin empty in each call.
-#[derive(Drop)]
+#[derive(Clone, Copy)]
 pub struct Room {
     pub journal: usize,
 }

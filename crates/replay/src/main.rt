@@ -27,6 +27,8 @@
 //
 // Each difference gives `case K call J: WHAT`; the end of the input, `N cases, M calls, D differences`. A line that is no case
 // gives `line K: not a case`, and nothing more is read.
+#![tactic(auto)]
+
 mod replay_entry;
 mod replay_line;
 
@@ -38,7 +40,7 @@ use transaction::run_phase;
 use transaction::types::{Phase, Transaction};
 
 // How many cases, calls and differences there were, and how many calls of this case.
-#[derive(Drop)]
+#[derive(Clone, Copy)]
 struct Tally {
     cases: u64,
     calls: u64,
@@ -47,14 +49,14 @@ struct Tally {
 }
 
 // How much of the piece of the input is in use, and how far it is read.
-#[derive(Drop)]
+#[derive(Clone, Copy)]
 struct Feed {
     at: usize,
     len: usize,
 }
 
 // How far a case is replayed: where its next call stands, and what the calls before it left.
-#[derive(Drop)]
+#[derive(Clone, Copy)]
 struct Replayed {
     at: usize,
     transaction: Transaction,
@@ -317,7 +319,7 @@ fn run_case(c: Tally, list: &[u64], bytes: &[u8]) -> Tally {
 }
 
 // How far the input is read: the feed, the line, and whether the input ended.
-#[derive(Drop)]
+#[derive(Clone, Copy)]
 struct Read {
     feed: Feed,
     line: Line,

@@ -13,7 +13,7 @@ use text::{ascii, span, trim};
 const NOWHERE: usize = 18446744073709551615;
 
 // How far a line is read: its bytes and numbers so far, and the number that is being read.
-#[derive(Drop)]
+#[derive(Clone, Copy)]
 pub struct Line {
     pub bytes: usize,
     pub numbers: usize,
@@ -25,7 +25,7 @@ pub struct Line {
 }
 
 // What the phase call is lent: three numbers, and where the lists stand.
-#[derive(Drop)]
+#[derive(Clone, Copy)]
 pub struct Given {
     pub phase: u64,
     pub mode: u64,
@@ -39,7 +39,7 @@ pub struct Given {
 }
 
 // The expected result: its numbers, and where the lists and the stop stand.
-#[derive(Drop)]
+#[derive(Clone, Copy)]
 pub struct Expected {
     pub answer: u64,
     pub error: u64,

@@ -1,2 +1,4 @@
+#![tactic(auto)]
+
 pub mod unsupported;
 pub mod verdicts;

@@ -18,6 +18,7 @@ use Rattle.lists.proofs.Tests.{and-true}
 
 -- a chain has at least the rule that it is asked from
 rest-positive : (rs : List Rule) (i : ℕ) → i < length rs → 0 < chain_rest (drop i rs)
+rest-positive [] i h = elim h [ ]
 rest-positive (r ∷ rs) zero h = by (eqb r.link 1)
   where
     by : (b : Bool) → 0 < cond b (suc (chain_rest rs)) 1

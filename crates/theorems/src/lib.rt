@@ -1,1 +1,2 @@
 // What follows from the definitions of crate reading without any code. There is no function here: specs/ has the theorems.
+#![tactic(auto)]

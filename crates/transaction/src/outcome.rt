@@ -38,7 +38,7 @@ fn is_last(ending: Ending, mode: RuleEngineMode) -> bool
 }
 
 // How a closed unit leaves the phase, and whether it is the last.
-#[derive(Drop)]
+#[derive(Clone, Copy)]
 pub struct TurnEnd {
     pub ending: Ending,
     pub last: bool,

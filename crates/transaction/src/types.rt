@@ -7,7 +7,7 @@ use reading::{OptionIntervention, Report};
 use unit::visit::State;
 
 // A transaction: the controls, the allowed flag, an intervention or none, and how many matched ids and data entries are in use.
-#[derive(Drop)]
+#[derive(Clone, Copy)]
 pub struct Transaction {
     pub controls: Controls,
     pub allowed: bool,
@@ -19,7 +19,7 @@ pub struct Transaction {
 // What a phase call answers, the same from the walk to a host: 0, 10, or the number of a refusal; the index of the rule that had
 // the error, with 10; how many entries the journal holds; and what is told besides.
 #[repr(C)]
-#[derive(Drop)]
+#[derive(Clone, Copy)]
 pub struct Answer {
     // 0, 10 or a refusal's number.
     pub answer: u64,
@@ -32,7 +32,7 @@ pub struct Answer {
 }
 
 // The answer, and the transaction after the call.
-#[derive(Drop)]
+#[derive(Clone, Copy)]
 pub struct Phase {
     pub answer: Answer,
     pub transaction: Transaction,
@@ -40,7 +40,7 @@ pub struct Phase {
 
 // How far a walk is: where it stands, how many rules it has visited, how many matched ids and data entries are in use, and what
 // of the controls is passed by value.
-#[derive(Drop)]
+#[derive(Clone, Copy)]
 pub struct WalkState {
     pub state: State,
     pub visits: usize,
@@ -50,7 +50,7 @@ pub struct WalkState {
 }
 
 // How a walk ended, how far it was then, and the intervention or none.
-#[derive(Drop)]
+#[derive(Clone, Copy)]
 pub struct End {
     pub ending: Ending,
     pub at: WalkState,
@@ -58,7 +58,7 @@ pub struct End {
 }
 
 // Where a closed unit leaves the walk.
-#[derive(Drop)]
+#[derive(Clone, Copy)]
 pub enum AfterUnit {
     GoesOn(WalkState),
     Ends(End),

@@ -13,7 +13,7 @@ use reading::{CallSettings, DataEntry, DisruptiveOutcome, OptionU64, widths};
 use ruleset::rules;
 
 // How many ids and data entries were written, the index that the walk goes on with, and the starter's last disruptive action.
-#[derive(Drop)]
+#[derive(Clone, Copy)]
 pub struct UnitOutcome {
     pub ids: usize,
     pub entries: usize,

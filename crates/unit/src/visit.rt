@@ -14,7 +14,7 @@ use ruleset::rules;
 
 // Where the walk stands. `next` is the index that it goes on with, so a pending skip is part of it. `first` is the place in
 // the journal of the open chain's first entry, if a chain is open.
-#[derive(Drop)]
+#[derive(Clone, Copy)]
 pub struct State {
     pub next: usize,
     pub chained: bool,
@@ -23,7 +23,7 @@ pub struct State {
 
 // A visit: what is found, whether it closes a unit, and where the walk stands then, before the unit's flow. Its `first` is
 // the place in the journal of the unit's first entry.
-#[derive(Drop)]
+#[derive(Clone, Copy)]
 pub struct VisitOutcome {
     pub verdict: Verdict,
     pub closes: bool,

@@ -1,0 +1,73 @@
+use borrow.Author.Rules.{rules}
+use Prim.Native.Nat.{ℕ, suc, ◌+◌, ◌-◌, ◌≤◌, ◌<◌}
+use mathlib.Core.Path.{◌≡◌, sym, ◌∙◌}
+use mathlib.Core.List.{List}
+use native.Mathlib.Omega.{arith}
+use native.Mathlib.Numerals.{add-one}
+use lib.ListN.{length, drop, get_or}
+use Rattle.reading.specs.Directive.{removal_value}
+use Rattle.ctl.specs.declared.range_count.PartState.{PartState}
+use Rattle.ctl.specs.declared.range_count.Step.{Step}
+use Rattle.ctl.specs.declared.range_count.PartEnd.{PartEnd}
+use Rattle.ctl.specs.declared.range_count.RangeCount.{RangeCount}
+use Rattle.ctl.specs.CountRanges.{count_of, count_in}
+use Rattle.ctl.specs.Scan.{part_start}
+use Rattle.ctl.proofs.range_count.Bytes.{digit-byte, few}
+use Rattle.ctl.proofs.range_count.Passing.{after_part, after_step, scan, pass-counts, turn-digit, turn-other, turn-comma, turn_end}
+use Rattle.ctl.proofs.range_count.Commas.{passed-inside, passed-counts}
+use Rattle.ctl.proofs.range_count.count_ranges.Goals as goal
+
+pub loop-i-init : goal.loop-i-init
+loop-i-init c =
+    let s = c.args.value.now in
+    (omega arith, omega arith, rw c.part_start-seen.ensures (pass-counts s))
+
+pub returns-in_default : goal.returns-in_default
+returns-in_default c = sym ((let fact : (count_in (removal_value (c.args.value.now)) ≡ after_part ((λ (n : ℕ). scan (drop (suc c.loop-i.i) c.args.value.now) part_start n)) (c.loop-i.n) PartEnd.Bad) = c.loop-i.invariant.2 ∙ turn-comma (c.args.value.now) (c.loop-i.seen) (c.loop-i.n) (c.loop-i.i) (c.loop-i-test.true) PartEnd.Bad c.if-b-eq44.true
+    (sym c.part_end.ensures ∙ c.in_default.is) in fact))
+
+pub loop-i-preserved-then-k-eq0 : goal.loop-i-preserved-then-k-eq0
+loop-i-preserved-then-k-eq0 c =
+    let e = ((let fact : (count_in (removal_value (c.args.value.now)) ≡ after_part ((λ (n : ℕ). scan (drop (suc c.loop-i.i) c.args.value.now) part_start n)) (c.loop-i.n) (PartEnd.Counts c.in-Counts.k)) = c.loop-i.invariant.2 ∙ turn-comma (c.args.value.now) (c.loop-i.seen) (c.loop-i.n) (c.loop-i.i) (c.loop-i-test.true) (PartEnd.Counts c.in-Counts.k) c.if-b-eq44.true
+    (sym c.part_end.ensures ∙ c.in-Counts.is) in fact)) in
+    simp (c.skip_commas-i.ensures, add-one, c.part_start-seen-then-b-eq44.ensures) (
+      passed-inside (c.args.value.now) (suc (c.loop-i.i)) (c.loop-i-test.true),
+      omega (arith, (let fact : c.in-Counts.k ≤ 1 = few (c.loop-i.seen) c.in-Counts.k (sym c.part_end.ensures ∙ c.in-Counts.is) in fact)),
+      e ∙ passed-counts (c.args.value.now) (suc (c.loop-i.i)) (c.loop-i.n + c.in-Counts.k),
+    )
+
+pub loop-i-preserved-else-k-eq0 : goal.loop-i-preserved-else-k-eq0
+loop-i-preserved-else-k-eq0 c =
+    simp (add-one, c.part_start-seen-then-b-eq44.ensures) (omega arith, omega (arith, (let fact : c.in-Counts.k ≤ 1 = few (c.loop-i.seen) c.in-Counts.k (sym c.part_end.ensures ∙ c.in-Counts.is) in fact)), ((let fact : (count_in (removal_value (c.args.value.now)) ≡ after_part ((λ (n : ℕ). scan (drop (suc c.loop-i.i) c.args.value.now) part_start n)) (c.loop-i.n) (PartEnd.Counts c.in-Counts.k)) = c.loop-i.invariant.2 ∙ turn-comma (c.args.value.now) (c.loop-i.seen) (c.loop-i.n) (c.loop-i.i) (c.loop-i-test.true) (PartEnd.Counts c.in-Counts.k) c.if-b-eq44.true
+    (sym c.part_end.ensures ∙ c.in-Counts.is) in fact)))
+
+pub returns-in_default-on_digit : goal.returns-in_default-on_digit
+returns-in_default-on_digit c = sym ((let fact : (count_in (removal_value (c.args.value.now)) ≡ after_step (λ q. (scan (drop (suc c.loop-i.i) c.args.value.now) q (c.loop-i.n))) Step.Bad) = c.loop-i.invariant.2 ∙ turn-digit (c.args.value.now) (c.loop-i.seen) (c.loop-i.n) (c.loop-i.i) (c.loop-i-test.true) Step.Bad c.if-b-eq44.false
+    (sym c.is_digit.ensures ∙ c.if-is_digit.true) (sym c.on_digit.ensures ∙ c.in_default-on_digit.is) in fact))
+
+pub loop-i-preserved-then-is_digit : goal.loop-i-preserved-then-is_digit
+loop-i-preserved-then-is_digit c =
+    let e = (let fact : (count_in (removal_value (c.args.value.now)) ≡ after_step (λ q. (scan (drop (suc c.loop-i.i) c.args.value.now) q (c.loop-i.n))) (Step.Next c.in-Next.next)) = c.loop-i.invariant.2 ∙ turn-digit (c.args.value.now) (c.loop-i.seen) (c.loop-i.n) (c.loop-i.i) (c.loop-i-test.true) (Step.Next c.in-Next.next) c.if-b-eq44.false
+    (sym c.is_digit.ensures ∙ c.if-is_digit.true) (sym c.on_digit.ensures ∙ c.in-Next.is) in fact) in
+    simp add-one (omega arith, omega arith, e)
+
+pub returns-in_default-on_other : goal.returns-in_default-on_other
+returns-in_default-on_other c = sym ((let fact : (count_in (removal_value (c.args.value.now)) ≡ after_step (λ q. (scan (drop (suc c.loop-i.i) c.args.value.now) q (c.loop-i.n))) Step.Bad) = c.loop-i.invariant.2 ∙ turn-other (c.args.value.now) (c.loop-i.seen) (c.loop-i.n) (c.loop-i.i) (c.loop-i-test.true) Step.Bad c.if-b-eq44.false
+    (sym c.is_digit.ensures ∙ c.if-is_digit.false) (sym c.on_other.ensures ∙ c.in_default-on_other.is) in fact))
+
+pub loop-i-preserved : goal.loop-i-preserved
+loop-i-preserved c =
+    let e = (let fact : (count_in (removal_value (c.args.value.now)) ≡ after_step (λ q. (scan (drop (suc c.loop-i.i) c.args.value.now) q (c.loop-i.n))) (Step.Next c.in-Next-on_other.next)) = c.loop-i.invariant.2 ∙ turn-other (c.args.value.now) (c.loop-i.seen) (c.loop-i.n) (c.loop-i.i) (c.loop-i-test.true) (Step.Next c.in-Next-on_other.next) c.if-b-eq44.false
+    (sym c.is_digit.ensures ∙ c.if-is_digit.false) (sym c.on_other.ensures ∙ c.in-Next-on_other.is) in fact) in
+    simp add-one (omega arith, omega arith, e)
+
+pub returns-in_default-part_end : goal.returns-in_default-part_end
+returns-in_default-part_end c = sym ((let fact : (count_in (removal_value c.args.value.now) ≡ after_part count_of c.loop-i.n PartEnd.Bad) = c.loop-i.invariant.2
+    ∙ turn_end c.args.value.now c.loop-i.seen c.loop-i.n c.loop-i.i PartEnd.Bad
+    c.loop-i-test.false (sym c.part_end-2.ensures ∙ c.in_default-part_end.is) in fact))
+
+pub returns : goal.returns
+returns c =
+    c.counted.ensures ∙ sym ((let fact : (count_in (removal_value c.args.value.now) ≡ after_part count_of c.loop-i.n (PartEnd.Counts c.in-Counts-part_end.k)) = c.loop-i.invariant.2
+    ∙ turn_end c.args.value.now c.loop-i.seen c.loop-i.n c.loop-i.i (PartEnd.Counts c.in-Counts-part_end.k)
+    c.loop-i-test.false (sym c.part_end-2.ensures ∙ c.in-Counts-part_end.is) in fact))

@@ -1,0 +1,15 @@
+use Prim.Native.Nat.{◌≤◌}
+use mathlib.Core.Path.{◌≡◌, sym, ap, ◌∙◌}
+use native.Mathlib.Omega.{arith}
+use lib.ListN.{length, take}
+use Rattle.reading.specs.Text.{trim_end}
+use Rattle.lists.proofs.Slices.{front_length}
+use Rattle.text.proofs.trim.Trimming.{back-blank, back-other, back_none}
+use lib.Seq.{take_all}
+use Rattle.text.proofs.trim.trim_end.Given as goal
+
+abbrev pub invariant-loop-n : goal.invariant-loop-n
+invariant-loop-n l = (l.n ≤ length l.s) × (trim_end l.s ≡ trim_end (take l.n l.s))
+
+abbrev pub decreases-loop-n : goal.decreases-loop-n
+decreases-loop-n l = l.n
