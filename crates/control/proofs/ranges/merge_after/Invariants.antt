@@ -1,0 +1,13 @@
+use borrow.Author.Rules.{rules}
+use Prim.Native.Nat.{◌-◌}
+use mathlib.Core.Path.{refl, ◌∙◌}
+use native.Mathlib.Omega.{arith}
+use Rattle.control.specs.Merging.{Within}
+use Rattle.control.proofs.ranges.MergingLaws.{Taking, taken_start, room, taken_more, taken-all, merge_none, merge-all}
+use Rattle.control.proofs.ranges.merge_after.Given as goal
+
+abbrev pub invariant-loop-i : goal.invariant-loop-i
+invariant-loop-i l = Taking l.held l.all l.initial.starts l.initial.ends l.starts l.ends l.count l.i
+
+abbrev pub decreases-loop-i : goal.decreases-loop-i
+decreases-loop-i l = l.all - l.i
