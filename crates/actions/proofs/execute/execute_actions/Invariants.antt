@@ -1,0 +1,17 @@
+use borrow.Author.Rules.{rules}
+use Prim.Native.Nat.{◌+◌, ◌-◌, ◌/◌, ◌≤◌, ◌<◌, min}
+use mathlib.Core.Path.{◌≡◌}
+use native.Mathlib.Omega.{arith}
+use lib.ListN.{length}
+use Rattle.reading.specs.Records.{action_list}
+use Rattle.actions.proofs.execute.SlotLaws.{slot-below}
+use Rattle.actions.proofs.execute.PlacedLaws.{up_to}
+use Rattle.actions.proofs.execute.Sofar.{Sofar, sofar-none, sofar-length, sofar-turn, sofar-end}
+use Rattle.actions.proofs.execute.execute_actions.Given as goal
+
+abbrev pub invariant-loop-i : goal.invariant-loop-i
+invariant-loop-i l =
+    (l.first ≤ l.i) × (l.i ≤ l.end) × (l.n ≤ l.i) × Sofar (action_list l.actions) l.initial.controls (up_to (action_list l.actions) l.first l.i) l.last l.controls l.n
+
+abbrev pub decreases-loop-i : goal.decreases-loop-i
+decreases-loop-i l = l.end - l.i

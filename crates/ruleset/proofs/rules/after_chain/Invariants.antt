@@ -1,0 +1,14 @@
+use Prim.Native.Nat.{◌+◌, ◌-◌}
+use mathlib.Core.Path.{◌≡◌, refl, sym, ◌∙◌}
+use native.Mathlib.Omega.{arith}
+use lib.ListN.{drop}
+use Rattle.reading.specs.Records.{rule_list}
+use Rattle.reading.specs.Walk.{chain_rest}
+use Rattle.ruleset.proofs.rules.ChainLaws.{chain-on, chain-closed, chain-end}
+use Rattle.ruleset.proofs.rules.after_chain.Given as goal
+
+abbrev pub invariant-loop-i : goal.invariant-loop-i
+invariant-loop-i l = l.index + chain_rest (drop l.index (rule_list l.rules)) ≡ l.i + chain_rest (drop l.i (rule_list l.rules))
+
+abbrev pub decreases-loop-i : goal.decreases-loop-i
+decreases-loop-i l = l.n - l.i
