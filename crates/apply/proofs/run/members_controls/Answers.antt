@@ -1,0 +1,14 @@
+use Prim.Native.Nat.{◌+◌, ◌-◌, ◌<◌, ◌^◌}
+use native.Mathlib.Omega.{arith}
+use Rattle.reading.specs.Records.{rule_list, action_list}
+use Rattle.apply.specs.Append.{struct_of}
+use Rattle.apply.proofs.run.UnitLaws.{Across, across-none, across-more, across-end}
+use Rattle.apply.proofs.run.members_controls.Goals as goal
+
+pub loop-i-preserved : goal.loop-i-preserved
+loop-i-preserved c =
+    let l = c.loop-i in
+    across-more _ _ _ _ _ _ _ _ l.i l.invariant _ _ c.loop-i-test.true c.entry_controls-r.ensures
+
+pub returns : goal.returns
+returns c = let l = c.loop-i in across-end _ _ _ _ _ _ _ _ l.i l.invariant c.loop-i-test.false

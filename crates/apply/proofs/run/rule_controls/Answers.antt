@@ -1,0 +1,25 @@
+use Prim.Native.Nat.{◌-◌, ◌≤◌}
+use native.Mathlib.Omega.{arith}
+use lib.ListN.{length}
+use Rattle.reading.specs.Lists.{any}
+use Rattle.reading.specs.Records.{action_list}
+use Rattle.control.specs.ControlsStruct.{controls_of}
+use Rattle.apply.specs.UnitCodes.{applied_codes}
+use Rattle.apply.specs.Append.{struct_of}
+use Rattle.apply.proofs.changes.CodeLaws.{slice}
+use Rattle.apply.proofs.run.RuleLaws.{is_adding, Going, going-none, going_more, going_end}
+use borrow.Author.Rules.{rules}
+use Rattle.apply.proofs.run.rule_controls.Goals as goal
+
+pub loop-i-preserved : goal.loop-i-preserved
+loop-i-preserved c =
+    let l = c.loop-i in (
+      omega (arith, l.invariant.0),
+      going_more _ _ _ _ _ _ l.i _ _ _ c.loop-i-test.true ((let fact : c.codes_end-end.result ≤ length c.args.codes.now = omega (arith, c.codes_end-end.ensures, c.loop-i-test.true, c.loop-i.invariant.0) in fact)) l.invariant.1 _ _ c.apply-r.ensures,
+    )
+
+pub returns : goal.returns
+returns c =
+    let l = c.loop-i in
+    going_end _ _ c.args.rule _ _ _ _ l.i _ c.loop-i-test.false
+    c.codes_end-end.ensures l.invariant.1
