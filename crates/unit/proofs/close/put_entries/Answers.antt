@@ -1,0 +1,52 @@
+use Prim.Native.Nat.{ℕ, ◌+◌, ◌-◌, ◌*◌, ◌/◌, ◌<◌, ◌^◌}
+use mathlib.Core.Path.{◌≡◌}
+use mathlib.Core.List.{List, [], ◌∷◌}
+use mathlib.Core.Bool.{◌&&◌}
+use lib.Dec.{eqb}
+use Rattle.reading.specs.Lists.{keep}
+use native.Mathlib.Omega.{arith}
+use lib.ListN.{length, get_or}
+use Rattle.reading.specs.declared.OptionU64.{OptionU64}
+use Rattle.reading.specs.declared.DataEntry.{DataEntry}
+use Rattle.reading.specs.Records.{rule_list}
+use Rattle.unit.specs.CloseUnit.{member_entry}
+use Rattle.unit.proofs.close.EntryLaws.{Sofar, sofar-start, sofar-more, sofar-end, data_from, data-more, data-end, at_most_one}
+use borrow.Author.Rules.{rules}
+use Rattle.unit.proofs.close.put_entries.Invariants.{entries_from}
+use Rattle.unit.proofs.close.put_entries.Goals as goal
+
+pub loop-k-init : goal.loop-k-init
+loop-k-init c = let a = c.args in
+    sofar-start (entries_from a.phase a.starter a.members.now a.rules.now a.outcomes.now 0) a.entries.now
+
+pub loop-k-preserved : goal.loop-k-preserved
+loop-k-preserved c = let a = c.args in
+    let k = c.loop-k.k in
+    let give = member_entry a.phase a.starter (rule_list a.rules.now) a.outcomes.now in
+    let e = c.data_entry-e in
+    let o = c.outcome_at in
+    let p = c.put_entry-w in
+    let h = c.loop-k-test.true in
+    let is : give (get_or a.members.now (2 * k) 0) ≡ keep (eqb o.result 2) (e.result ∷ []) =
+    rw (
+      o.ensures,
+      e.ensures,
+      c.own_or.ensures,
+      c.rule_id-own.ensures,
+      c.rule_at.ensures,
+    ) in
+    sofar-more (data_from a.members.now give 0) a.entries.now (data_from a.members.now give k) _
+    (data_from a.members.now give (k + 1))
+    c.loop-k.entries _
+    c.loop-k.w p.result
+    (data-more a.members.now give k o.result e.result h is)
+    (at_most_one (eqb (get_or a.members.now (2 * k + 1) 0) 1 && eqb o.result 2) e.result)
+    c.loop-k.invariant
+    p.ensures
+
+pub returns : goal.returns
+returns c = let a = c.args in
+    let give = member_entry a.phase a.starter (rule_list a.rules.now) a.outcomes.now in
+    let e = data-end a.members.now give c.loop-k.k c.loop-k-test.false in
+    sofar-end (data_from a.members.now give 0) a.entries.now c.loop-k.entries c.loop-k.w
+    (rw e at c.loop-k.invariant)
