@@ -1,0 +1,14 @@
+use borrow.Author.Rules.{rules}
+use Prim.Native.Nat.{◌-◌, ◌<◌}
+use mathlib.Core.Path.{◌∙◌}
+use native.Mathlib.Omega.{arith}
+use lib.ListN.{length, set, length-set}
+use lib.Seq.{get_or-set_same, lt-length-set}
+use Rattle.refusals.specs.Totals.{weight_by}
+use Rattle.refusals.proofs.totals.Summing.{Sofar, sofar-none, sofar-more, sofar-end}
+use Rattle.refusals.proofs.totals.prefix_sums.Goals as goal
+
+pub loop-i-preserved : goal.loop-i-preserved
+loop-i-preserved c =
+    sofar-more _ _ _ ((lt-length-set c.args.sums.now 0 0 c.requires.0)) _ _ c.loop-i.i _ (omega arith) c.weight-sum.ensures.0
+    c.weight-sum.ensures.1 c.loop-i.invariant

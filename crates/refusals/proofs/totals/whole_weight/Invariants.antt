@@ -1,0 +1,13 @@
+use borrow.Author.Rules.{rules}
+use Prim.Native.Nat.{◌-◌}
+use mathlib.Core.Path.{◌∙◌}
+use native.Mathlib.Omega.{arith}
+use Rattle.refusals.specs.Totals.{weight_by}
+use Rattle.refusals.proofs.totals.Exceeding.{Whole, whole-none, whole-more, whole-end}
+use Rattle.refusals.proofs.totals.whole_weight.Given as goal
+
+abbrev pub invariant-loop-i : goal.invariant-loop-i
+invariant-loop-i l = Whole (weight_by l.targets) l.codes l.n l.sum l.i
+
+abbrev pub decreases-loop-i : goal.decreases-loop-i
+decreases-loop-i l = l.n - l.i
