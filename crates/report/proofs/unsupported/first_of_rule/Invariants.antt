@@ -1,0 +1,13 @@
+use borrow.Author.Rules.{rules}
+use Prim.Native.Nat.{◌-◌, ◌≤◌}
+use mathlib.Core.Path.{◌≡◌, refl, sym, ◌∙◌}
+use native.Mathlib.Omega.{arith}
+use lib.ListN.{length}
+use Rattle.report.proofs.unsupported.RuleLaws.{first_from, all_codes, code-found, code-passed, codes-past, reason-small}
+use Rattle.report.proofs.unsupported.first_of_rule.Given as goal
+
+abbrev pub invariant-loop-i : goal.invariant-loop-i
+invariant-loop-i l = (l.first ≤ l.i) × (l.i ≤ l.end) × (first_from l.index l.codes l.i l.end ≡ first_from l.index l.codes l.first l.end)
+
+abbrev pub decreases-loop-i : goal.decreases-loop-i
+decreases-loop-i l = l.end - l.i
