@@ -1,0 +1,12 @@
+use borrow.Author.Rules.{rules}
+use Prim.Native.Nat.{◌*◌}
+use mathlib.Core.Path.{◌≡◌, sym, ◌∙◌}
+use native.Mathlib.Omega.{arith}
+use lib.ListN.{length, length-map}
+use Rattle.lists.proofs.Slices.{front_length}
+use Rattle.abi.proofs.marker_lookup.LookupLaws.{refused-markers, many-unpacked}
+use Rattle.abi.proofs.marker_lookup.look_up_words.Goals as goal
+
+pub returns-then-count-gt-MARKERS : goal.returns-then-count-gt-MARKERS
+returns-then-count-gt-MARKERS c =
+    c.with_position.ensures ∙ refused-markers _ _ _ _ (many-unpacked c.args.c ((let fact : length c.args.c.words ≡ 771 = search rules in fact)) c.if-count-gt-MARKERS.true)
