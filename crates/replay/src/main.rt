@@ -29,13 +29,15 @@
 // gives `line K: not a case`, and nothing more is read.
 #![tactic(auto)]
 
+ghost use Rattle.std.specs.Prelude.{◌≤◌, IfOk};
+
 mod replay_entry;
 mod replay_line;
 
 use crate::replay_line::{Expected, Given, Line};
 use control::state::{Controls, Settings};
-use libc::{STDIN_FILENO, STDOUT_FILENO};
 use reading::{CallSettings, OptionIntervention, UnsupportedAt};
+use std::io;
 use transaction::run_phase;
 use transaction::types::{Phase, Transaction};
 
@@ -63,12 +65,12 @@ struct Replayed {
     tally: Tally,
 }
 
-fn write(text: &[u8]) {
-    io::write_all(STDOUT_FILENO, text);
+fn write<W: io::Write>(out: &mut W, text: &[u8]) -> io::Result<()> {
+    out.write_all(text)
 }
 
-fn write_number(n: u64) {
-    io::print_decimal(STDOUT_FILENO, n);
+fn write_number<W: io::Write>(out: &mut W, n: u64) -> io::Result<()> {
+    write!(out, "{n}")
 }
 
 fn more(n: u64) -> u64 {
@@ -89,19 +91,19 @@ impl Tally {
     }
 
     // Writes a difference, if it is one.
-    fn told(mut self, same: bool, what: &[u8]) -> Self {
+    fn told<W: io::Write>(mut self, out: &mut W, same: bool, what: &[u8]) -> io::Result<Self> {
         if same {
-            return self;
+            return Ok(self);
         }
-        write(b"case ");
-        write_number(self.cases);
-        write(b" call ");
-        write_number(self.call);
-        write(b": ");
-        write(what);
-        write(b"\n");
+        write(out, b"case ")?;
+        write_number(out, self.cases)?;
+        write(out, b" call ")?;
+        write_number(out, self.call)?;
+        write(out, b": ")?;
+        write(out, what)?;
+        write(out, b"\n")?;
         self.differences = more(self.differences);
-        self
+        Ok(self)
     }
 }
 
@@ -120,7 +122,8 @@ fn entry_transaction(list: &[u64]) -> Transaction {
 }
 
 // Answer, visits, ids and data.
-fn compare_lists(
+fn compare_lists<W: io::Write>(
+    out: &mut W,
     c: Tally,
     list: &[u64],
     e: Expected,
@@ -129,42 +132,52 @@ fn compare_lists(
     ids: &[u64],
     entries: &[u64],
     journal: &[u64],
-) -> Tally {
+) -> io::Result<Tally> {
     let visits = replay_line::items(list, e.visits, 2);
     let listed = replay_line::items(list, e.ids, 1);
     let written = replay_line::items(list, e.entries, 3);
     let ids_after = p.transaction.ids;
     let entries_after = p.transaction.entries;
     let mut t = c.told(
+        out,
         p.answer.answer == e.answer && p.answer.error == e.error,
         b"answer",
-    );
+    )?;
     t = t.told(
+        out,
         replay_line::same_visits(visits, journal, p.answer.visits as usize),
         b"visits",
-    );
+    )?;
     t = t.told(
+        out,
         replay_line::same_ids(listed, ids, before.ids, ids_after),
         b"ids",
-    );
+    )?;
     let same = replay_line::same_entries(written, entries, before.entries, entries_after);
-    t.told(same, b"data")
+    t.told(out, same, b"data")
 }
 
-fn compare_settings(c: Tally, e: Expected, s: Settings) -> Tally {
+fn compare_settings<W: io::Write>(
+    out: &mut W,
+    c: Tally,
+    e: Expected,
+    s: Settings,
+) -> io::Result<Tally> {
     let mode = s.mode;
     let access = s.access;
     let processor = s.processor;
-    let mut t = c.told(replay_entry::is_mode(e.mode, mode), b"mode");
-    t = t.told(replay_entry::is_access(e.access, access), b"access");
+    let mut t = c.told(out, replay_entry::is_mode(e.mode, mode), b"mode")?;
+    t = t.told(out, replay_entry::is_access(e.access, access), b"access")?;
     t.told(
+        out,
         replay_entry::is_processor(e.processor, processor),
         b"processor",
     )
 }
 
 // Ranges and targets. `held` targets were there before the call.
-fn compare_controls(
+fn compare_controls<W: io::Write>(
+    out: &mut W,
     c: Tally,
     list: &[u64],
     e: Expected,
@@ -173,10 +186,10 @@ fn compare_controls(
     phase: u64,
     actions: &[u64],
     text: &[u8],
-) -> Tally {
+) -> io::Result<Tally> {
     let ranges = replay_line::items(list, e.ranges, 2);
     let same = replay_line::same_ranges(ranges, &after.starts, &after.ends, after.ranges);
-    let t = c.told(same, b"ranges");
+    let t = c.told(out, same, b"ranges")?;
     let same_targets = replay_line::same_targets(
         list,
         e.targets,
@@ -188,11 +201,12 @@ fn compare_controls(
         actions,
         text,
     );
-    t.told(same_targets, b"targets")
+    t.told(out, same_targets, b"targets")
 }
 
 // The allowed flag and the intervention.
-fn compare_end(
+fn compare_end<W: io::Write>(
+    out: &mut W,
     c: Tally,
     list: &[u64],
     e: Expected,
@@ -201,16 +215,17 @@ fn compare_end(
     phase: u64,
     actions: &[u64],
     text: &[u8],
-) -> Tally {
+) -> io::Result<Tally> {
     let held = replay_entry::is_stopped(before);
     let stop = after.intervention;
-    let t = c.told(is_flag(e.allowed, after.allowed), b"allowed");
+    let t = c.told(out, is_flag(e.allowed, after.allowed), b"allowed")?;
     let same = replay_line::same_stop(list, e.stop, held, stop, phase, actions, text);
-    t.told(same, b"intervention")
+    t.told(out, same, b"intervention")
 }
 
 // What the transaction holds after the call.
-fn compare(
+fn compare<W: io::Write>(
+    out: &mut W,
     c: Tally,
     list: &[u64],
     bytes: &[u8],
@@ -218,16 +233,16 @@ fn compare(
     e: Expected,
     before: Transaction,
     after: Transaction,
-) -> Tally {
+) -> io::Result<Tally> {
     let actions = replay_line::items(list, g.actions, 6);
     let text = replay_line::bytes_of(list, bytes, g.text);
     let held = before.controls.targets;
     let stop = before.intervention;
     let controls = after.controls;
     let settings = controls.settings;
-    let mut t = compare_settings(c, e, settings);
-    t = compare_controls(t, list, e, held, controls, g.phase, actions, text);
-    compare_end(t, list, e, stop, after, g.phase, actions, text)
+    let mut t = compare_settings(out, c, e, settings)?;
+    t = compare_controls(out, t, list, e, held, controls, g.phase, actions, text)?;
+    compare_end(out, t, list, e, stop, after, g.phase, actions, text)
 }
 
 // The phase call. The records are lent as they stand in the list, text and outcomes as they stand in the bytes.
@@ -260,19 +275,25 @@ fn run_given(
 }
 
 // What is told of the first unsupported directive.
-fn compare_unsupported(c: Tally, e: Expected, told: UnsupportedAt) -> Tally {
+fn compare_unsupported<W: io::Write>(
+    out: &mut W,
+    c: Tally,
+    e: Expected,
+    told: UnsupportedAt,
+) -> io::Result<Tally> {
     let same = told.index == e.unsupported_index && told.reason == e.unsupported_reason;
-    c.told(same, b"unsupported")
+    c.told(out, same, b"unsupported")
 }
 
 // One call, and what it gave beside what is recorded.
-fn run_call(
+fn run_call<W: io::Write>(
+    out: &mut W,
     r: Replayed,
     list: &[u64],
     bytes: &[u8],
     ids: &mut [u64; 1024],
     entries: &mut [u64; 4096],
-) -> Replayed {
+) -> io::Result<Replayed> {
     let before = r.transaction;
     let tally = r.tally;
     let mut journal = [0u64; 128];
@@ -281,6 +302,7 @@ fn run_call(
     let p = run_given(before, list, bytes, g, ids, entries, &mut journal);
     let after = p.transaction;
     let t = compare_lists(
+        out,
         tally.with_call(),
         list,
         e,
@@ -289,18 +311,18 @@ fn run_call(
         ids,
         entries,
         &journal,
-    );
+    )?;
     let report = p.answer.report;
-    let whole = compare(t, list, bytes, g, e, before, after);
-    Replayed {
+    let whole = compare(out, t, list, bytes, g, e, before, after)?;
+    Ok(Replayed {
         at: e.end,
         transaction: after,
-        tally: compare_unsupported(whole, e, report.unsupported),
-    }
+        tally: compare_unsupported(out, whole, e, report.unsupported)?,
+    })
 }
 
 // A case: its calls go on with one transaction. The lists are long enough for 16 calls of 64 rules.
-fn run_case(c: Tally, list: &[u64], bytes: &[u8]) -> Tally {
+fn run_case<W: io::Write>(out: &mut W, c: Tally, list: &[u64], bytes: &[u8]) -> io::Result<Tally> {
     let mut ids = [0u64; 1024];
     let mut entries = [0u64; 4096];
     let calls = replay_line::calls_at(list);
@@ -312,10 +334,10 @@ fn run_case(c: Tally, list: &[u64], bytes: &[u8]) -> Tally {
     };
     let mut k = 0;
     while k < n {
-        r = run_call(r, list, bytes, &mut ids, &mut entries);
+        r = run_call(out, r, list, bytes, &mut ids, &mut entries)?;
         k += 1;
     }
-    r.tally
+    Ok(r.tally)
 }
 
 // How far the input is read: the feed, the line, and whether the input ended.
@@ -326,42 +348,58 @@ struct Read {
     ended: bool,
 }
 
-// Reads the next piece where the last is used up.
-fn filled(f: Feed, piece: &mut [u8; 4096]) -> Feed {
-    if f.at < f.len {
-        return f;
+// Reads until the piece is full or the input ends, and answers how many bytes it read.
+fn read_full<R: io::Read>(input: &mut R, piece: &mut [u8; 4096]) -> io::Result<usize>
+    ensures { IfOk result (λ n. n ≤ 4096) }
+{
+    let mut done = 0;
+    while done < 4096 {
+        let n = input.read(&mut piece[done..])?;
+        if n == 0 {
+            break;
+        }
+        done += n;
     }
-    Feed {
-        at: 0,
-        len: io::read_full(STDIN_FILENO, piece),
-    }
+    Ok(done)
 }
 
-fn read_byte(
+// Reads the next piece where the last is used up.
+fn filled<R: io::Read>(input: &mut R, f: Feed, piece: &mut [u8; 4096]) -> io::Result<Feed> {
+    if f.at < f.len {
+        return Ok(f);
+    }
+    Ok(Feed {
+        at: 0,
+        len: read_full(input, piece)?,
+    })
+}
+
+fn read_byte<R: io::Read>(
+    input: &mut R,
     r: Read,
     piece: &mut [u8; 4096],
     numbers: &mut [u64; 32768],
     bytes: &mut [u8; 32768],
-) -> Read {
+) -> io::Result<Read> {
     let feed = r.feed;
     let line = r.line;
-    let f = filled(feed, piece);
+    let f = filled(input, feed, piece)?;
     let at = f.at;
     if f.len <= at || 4095 < at {
-        return Read {
+        return Ok(Read {
             feed: f,
             line,
             ended: true,
-        };
+        });
     }
-    Read {
+    Ok(Read {
         feed: Feed {
             at: at + 1,
             len: f.len,
         },
         line: line.with_byte(piece[at], numbers, bytes),
         ended: false,
-    }
+    })
 }
 
 fn is_over(r: Read) -> bool {
@@ -370,12 +408,13 @@ fn is_over(r: Read) -> bool {
 }
 
 // One line, or as much of it as is none; its numbers go to the start of both lists.
-fn read_line(
+fn read_line<R: io::Read>(
+    input: &mut R,
     feed: Feed,
     piece: &mut [u8; 4096],
     numbers: &mut [u64; 32768],
     bytes: &mut [u8; 32768],
-) -> Read {
+) -> io::Result<Read> {
     let mut r = Read {
         feed,
         line: replay_line::new_line(),
@@ -383,13 +422,13 @@ fn read_line(
     };
     let mut left: u64 = 65537;
     while 0 < left {
-        r = read_byte(r, piece, numbers, bytes);
+        r = read_byte(input, r, piece, numbers, bytes)?;
         if is_over(r) {
-            return r;
+            return Ok(r);
         }
         left -= 1;
     }
-    r
+    Ok(r)
 }
 
 // The first numbers of a list.
@@ -417,26 +456,34 @@ fn is_good(line: Line, numbers: &[u64; 32768]) -> bool {
     replay_line::is_case(cut(numbers, line.numbers))
 }
 
-fn run_line(c: Tally, line: Line, numbers: &[u64; 32768], bytes: &[u8; 32768]) -> Tally {
-    run_case(c, cut(numbers, line.numbers), bytes)
+fn run_line<W: io::Write>(
+    out: &mut W,
+    c: Tally,
+    line: Line,
+    numbers: &[u64; 32768],
+    bytes: &[u8; 32768],
+) -> io::Result<Tally> {
+    run_case(out, c, cut(numbers, line.numbers), bytes)
 }
 
-fn write_sum(c: Tally) {
-    write_number(c.cases);
-    write(b" cases, ");
-    write_number(c.calls);
-    write(b" calls, ");
-    write_number(c.differences);
-    write(b" differences\n");
+fn write_sum<W: io::Write>(out: &mut W, c: Tally) -> io::Result<()> {
+    write_number(out, c.cases)?;
+    write(out, b" cases, ")?;
+    write_number(out, c.calls)?;
+    write(out, b" calls, ")?;
+    write_number(out, c.differences)?;
+    write(out, b" differences\n")
 }
 
-fn write_bad(line: u64) {
-    write(b"line ");
-    write_number(line);
-    write(b": not a case\n");
+fn write_bad<W: io::Write>(out: &mut W, line: u64) -> io::Result<()> {
+    write(out, b"line ")?;
+    write_number(out, line)?;
+    write(out, b": not a case\n")
 }
 
-fn main() {
+fn main(rt: HostRuntime) -> io::Result<()> {
+    let mut input = rt.reader();
+    let mut out = io::writer(&rt);
     let mut piece = [0u8; 4096];
     let mut numbers = [0u64; 32768];
     let mut bytes = [0u8; 32768];
@@ -449,18 +496,17 @@ fn main() {
     };
     let mut left: u64 = 18446744073709551615;
     while 0 < left {
-        let r = read_line(feed, &mut piece, &mut numbers, &mut bytes);
+        let r = read_line(&mut input, feed, &mut piece, &mut numbers, &mut bytes)?;
         let line = r.line;
         if is_end(r) {
-            write_sum(tally);
-            return;
+            return write_sum(&mut out, tally);
         }
         if !is_good(line, &numbers) {
-            write_bad(more(tally.cases));
-            return;
+            return write_bad(&mut out, more(tally.cases));
         }
-        tally = run_line(tally, line, &numbers, &bytes);
+        tally = run_line(&mut out, tally, line, &numbers, &bytes)?;
         feed = r.feed;
         left -= 1;
     }
+    Ok(())
 }
