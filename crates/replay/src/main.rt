@@ -26,7 +26,7 @@
 // a number. At most 64 rules, 512 actions, 16 markers and 4,096 text bytes a call, 16 calls a case, 65,536 bytes a line.
 //
 // Each difference gives `case K call J: WHAT`; the end of the input, `N cases, M calls, D differences`. A line that is no case
-// gives `line K: not a case`, and nothing more is read.
+// gives `line K: not a case`, and nothing more is read. A read or a write that fails ends the run with its error.
 #![tactic(auto)]
 
 ghost use Rattle.std.specs.Prelude.{◌≤◌, IfOk};
