@@ -16,7 +16,7 @@ use Rattle.abi.specs.HostControls.{known_controls, controls_from_host}
 use Rattle.host.specs.HostQueries.{controls_in, refusal_in, answered, host_target}
 
 -- t is what `is_bad` gave
-module _ (c : HostControls) (known t : Bool) (is : t ≡ bad_parts c.ranges-2 c.targets c.starts c.ends) where
+module _ (c : HostControls) (known t : Bool) (is : t ≡ bad_parts c.ranges c.targets c.starts c.ends) where
   met : refusal_in c known ≡ cond t 3 (cond known 0 5)
   unfolding refusal_in controls_from_host
   met = rw (bad (controls_from_host c), is)
