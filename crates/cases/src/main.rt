@@ -124,18 +124,14 @@ fn run_case<W: Write>(
     let actions_end = 6 * a;
     let markers_end = 3 * m;
     case_walk::write_gap(output, c.started)?;
-    let all_rules = &rules[..];
-    let all_actions = &actions[..];
-    let all_markers = &markers[..];
-    let all_outcomes = &outcomes[..];
     run_records(
         output,
         s,
         c,
-        &all_rules[0..rules_end],
-        &all_actions[0..actions_end],
-        &all_markers[0..markers_end],
-        &all_outcomes[0..n],
+        &rules[..rules_end],
+        &actions[..actions_end],
+        &markers[..markers_end],
+        &outcomes[..n],
     )?;
     Ok(Step::Next(case_text::no_case(true)))
 }
