@@ -3,6 +3,7 @@
 //
 // Standard input has the case format, as far as cases/c1-c16.cases uses it. Anything else, and what does not fit into the
 // lists, gives `bad input`, and nothing more is read. The text that is lent to the call is the input itself.
+// A read or a write that fails ends the run with its error.
 #![tactic(auto)]
 
 mod case_text;

@@ -3,6 +3,7 @@
 // A row is seven numbers of five digits, each with one byte after it: the lengths of name and value
 // in the row, how many fill bytes stand before each of them in its text, the fill byte, and the lengths
 // of the two lists; then name and value, and one byte more. oracle/make-directive-table writes the table.
+// A read or a write that fails ends the run with its error.
 #![tactic(auto)]
 
 ghost use Rattle.std.specs.Prelude.{◌≤◌};
