@@ -3,17 +3,19 @@
 // A row is seven numbers of five digits, each with one byte after it: the lengths of name and value
 // in the row, how many fill bytes stand before each of them in its text, the fill byte, and the lengths
 // of the two lists; then name and value, and one byte more. oracle/make-directive-table writes the table.
+// A read or a write that fails ends the run with its error.
 #![tactic(auto)]
 
 ghost use Rattle.std.specs.Prelude.{◌≤◌};
-ghost use Rattle.io.specs.Counts.{IsPrefixLen};
+ghost use Rattle.std.specs.Io.{ReadsAtMost};
 
 use ctl::read::ReadAnswer;
 use ctl::{directive, read};
-use libc::{STDIN_FILENO, STDOUT_FILENO};
 use reading::{
     BodyAccess, BodyProcessor, CtlDirective, OptionDirective, RuleEngineMode, UnsupportedReason,
 };
+use std::io;
+use std::io::{Read, Write};
 use text::trim;
 
 // What the lists are filled with.
@@ -74,13 +76,13 @@ fn least(a: usize, b: usize) -> usize
     if a < b { a } else { b }
 }
 
-fn write(text: &[u8]) {
-    io::write_all(STDOUT_FILENO, text);
+fn write<W: Write>(output: &mut W, text: &[u8]) -> io::Result<()> {
+    output.write_all(text)
 }
 
-fn write_byte(b: u8) {
+fn write_byte<W: Write>(output: &mut W, b: u8) -> io::Result<()> {
     let one = [b];
-    write(&one);
+    write(output, &one)
 }
 
 fn hex_digit(n: u8) -> u8 {
@@ -89,106 +91,112 @@ fn hex_digit(n: u8) -> u8 {
 }
 
 // A byte of a TEXT of the case format.
-fn write_escaped(b: u8) {
+fn write_escaped<W: Write>(output: &mut W, b: u8) -> io::Result<()> {
     if b == 34 {
-        write(b"\\\"");
-        return;
+        return write(output, b"\\\"");
     }
     if b == 92 {
-        write(b"\\\\");
-        return;
+        return write(output, b"\\\\");
     }
     if 32 <= b && b <= 126 {
-        write_byte(b);
-        return;
+        return write_byte(output, b);
     }
-    write(b"\\x");
-    write_byte(hex_digit(b / 16));
-    write_byte(hex_digit(b));
+    write(output, b"\\x")?;
+    write_byte(output, hex_digit(b / 16))?;
+    write_byte(output, hex_digit(b))
 }
 
-fn write_bytes(s: &[u8]) {
+fn write_bytes<W: Write>(output: &mut W, s: &[u8]) -> io::Result<()> {
     let mut i = 0;
     while i < s.len() {
-        write_escaped(s[i]);
+        write_escaped(output, s[i])?;
         i += 1;
     }
+    Ok(())
 }
 
-fn write_text(s: &[u8]) {
-    write(b"\"");
-    write_bytes(s);
-    write(b"\"");
+fn write_text<W: Write>(output: &mut W, s: &[u8]) -> io::Result<()> {
+    write(output, b"\"")?;
+    write_bytes(output, s)?;
+    write(output, b"\"")
 }
 
-fn write_range(start: u64, end: u64) {
-    write(b" ");
-    io::print_decimal(STDOUT_FILENO, start);
-    write(b"-");
-    io::print_decimal(STDOUT_FILENO, end);
+fn write_range<W: Write>(output: &mut W, start: u64, end: u64) -> io::Result<()> {
+    write!(output, " {start}-{end}")
 }
 
 // The first `count` ranges, as far as there are so many.
-fn write_ranges(starts: &[u64], ends: &[u64], count: usize) {
+fn write_ranges<W: Write>(
+    output: &mut W,
+    starts: &[u64],
+    ends: &[u64],
+    count: usize,
+) -> io::Result<()> {
     let n = least(count, least(starts.len(), ends.len()));
     let mut i = 0;
     while i < n {
-        write_range(starts[i], ends[i]);
+        write_range(output, starts[i], ends[i])?;
         i += 1;
     }
+    Ok(())
 }
 
-fn write_target(value: &[u8], cut: usize) {
-    write(b"target ");
+fn write_target<W: Write>(output: &mut W, value: &[u8], cut: usize) -> io::Result<()> {
+    write(output, b"target ")?;
     if value.len() <= cut {
-        write(b"cut outside");
-        return;
+        return write(output, b"cut outside");
     }
-    write_text(trim::trim(&value[0..cut]));
-    write(b" ");
-    write_text(trim::trim(&value[cut + 1..]));
+    write_text(output, trim::trim(&value[0..cut]))?;
+    write(output, b" ")?;
+    write_text(output, trim::trim(&value[cut + 1..]))
 }
 
-fn write_mode(m: RuleEngineMode) {
+fn write_mode<W: Write>(output: &mut W, m: RuleEngineMode) -> io::Result<()> {
     match m {
-        RuleEngineMode::On => write(b"engine On"),
-        RuleEngineMode::DetectionOnly => write(b"engine DetectionOnly"),
-        RuleEngineMode::Off => write(b"engine Off"),
+        RuleEngineMode::On => write(output, b"engine On"),
+        RuleEngineMode::DetectionOnly => write(output, b"engine DetectionOnly"),
+        RuleEngineMode::Off => write(output, b"engine Off"),
     }
 }
 
-fn write_access(a: BodyAccess) {
+fn write_access<W: Write>(output: &mut W, a: BodyAccess) -> io::Result<()> {
     match a {
-        BodyAccess::On => write(b"body-access On"),
-        BodyAccess::Off => write(b"body-access Off"),
+        BodyAccess::On => write(output, b"body-access On"),
+        BodyAccess::Off => write(output, b"body-access Off"),
     }
 }
 
-fn write_processor(p: BodyProcessor) {
+fn write_processor<W: Write>(output: &mut W, p: BodyProcessor) -> io::Result<()> {
     match p {
-        BodyProcessor::Urlencoded => write(b"body-processor URLENCODED"),
-        BodyProcessor::Multipart => write(b"body-processor MULTIPART"),
-        BodyProcessor::Json => write(b"body-processor JSON"),
-        BodyProcessor::Xml => write(b"body-processor XML"),
+        BodyProcessor::Urlencoded => write(output, b"body-processor URLENCODED"),
+        BodyProcessor::Multipart => write(output, b"body-processor MULTIPART"),
+        BodyProcessor::Json => write(output, b"body-processor JSON"),
+        BodyProcessor::Xml => write(output, b"body-processor XML"),
     }
 }
 
-fn write_reason(reason: UnsupportedReason) {
-    write(b"unsupported ");
-    io::print_decimal(STDOUT_FILENO, directive::reason_number(reason) as u64);
+fn write_reason<W: Write>(output: &mut W, reason: UnsupportedReason) -> io::Result<()> {
+    let number = directive::reason_number(reason);
+    write!(output, "unsupported {number}")
 }
 
-fn write_directive(d: CtlDirective, value: &[u8], starts: &[u64], ends: &[u64]) {
+fn write_directive<W: Write>(
+    output: &mut W,
+    d: CtlDirective,
+    value: &[u8],
+    starts: &[u64],
+    ends: &[u64],
+) -> io::Result<()> {
     match d {
-        CtlDirective::RuleEngine(m) => write_mode(m),
+        CtlDirective::RuleEngine(m) => write_mode(output, m),
         CtlDirective::RuleRemoveById(count) => {
-            write(b"ranges");
-            write_ranges(starts, ends, count);
+            write(output, b"ranges")?;
+            write_ranges(output, starts, ends, count)
         }
-        CtlDirective::RuleRemoveTargetById(cut) => write_target(value, cut),
-        CtlDirective::RequestBodyAccess(a) => write_access(a),
-        CtlDirective::RequestBodyProcessor(p) => write_processor(p),
-        CtlDirective::Unsupported(reason) => write_reason(reason),
+        CtlDirective::RuleRemoveTargetById(cut) => write_target(output, value, cut),
+        CtlDirective::RequestBodyAccess(a) => write_access(output, a),
+        CtlDirective::RequestBodyProcessor(p) => write_processor(output, p),
+        CtlDirective::Unsupported(reason) => write_reason(output, reason),
     }
 }
 
@@ -212,54 +220,85 @@ fn is_as_lent(list: &[u64], from: usize, lent: u64) -> bool {
     true
 }
 
-fn write_changes(list: &[u64], from: usize, lent: u64) {
+fn write_changes<W: Write>(output: &mut W, list: &[u64], from: usize, lent: u64) -> io::Result<()> {
     if !is_as_lent(list, from, lent) {
-        write(b" changed");
+        write(output, b" changed")?;
     }
+    Ok(())
 }
 
 // The row's line: the number of a refusal, or the directive, and what is not as it should be.
-fn write_line(read: ReadAnswer, value: &[u8], starts: &[u64], ends: &[u64]) {
+fn write_line<W: Write>(
+    output: &mut W,
+    read: ReadAnswer,
+    value: &[u8],
+    starts: &[u64],
+    ends: &[u64],
+) -> io::Result<()> {
     let mut used = 0;
-    if read.answer != 0 {
-        io::print_decimal(STDOUT_FILENO, read.answer);
+    let answer = read.answer;
+    if answer != 0 {
+        write!(output, "{answer}")?;
     }
     let found = read.directive;
     match found {
         OptionDirective::None => {}
         OptionDirective::Some(d) => {
-            if read.answer != 0 {
-                write(b" and ");
+            if answer != 0 {
+                write(output, b" and ")?;
             }
-            write_directive(d, value, starts, ends);
+            write_directive(output, d, value, starts, ends)?;
             used = written(d);
         }
     }
-    write_changes(starts, used, START);
-    write_changes(ends, used, END);
-    write(b"\n");
+    write_changes(output, starts, used, START)?;
+    write_changes(output, ends, used, END)?;
+    write(output, b"\n")
+}
+
+// Reads until `buf` is full or the input ends, and answers how many bytes it put at the start of `buf`.
+fn read_full<R: Read>(input: &mut R, buf: &mut [u8]) -> io::Result<usize>
+    ensures { ReadsAtMost result buf.new }
+{
+    let mut done = 0;
+    while done < buf.len() {
+        let n = input.read(&mut buf[done..])?;
+        if n == 0 {
+            break;
+        }
+        done += n;
+    }
+    Ok(done)
 }
 
 // Reads `n` bytes after the fill bytes, and answers where the text ends.
-fn read_text(text: &mut [u8], fill: usize, n: usize) -> usize
-    ensures { IsPrefixLen result text.new }
+fn read_text<R: Read>(input: &mut R, text: &mut [u8], fill: usize, n: usize) -> io::Result<usize>
+    ensures { ReadsAtMost result text.new }
 {
     if text.len() < fill {
-        return 0;
+        return Ok(0);
     }
     if text.len() - fill < n {
-        return 0;
+        return Ok(0);
     }
     let end = fill + n;
-    io::read_full(STDIN_FILENO, &mut text[fill..end]);
-    end
+    read_full(input, &mut text[fill..end])?;
+    Ok(end)
 }
 
-fn run_texts(row: Row, name: &mut [u8], value: &mut [u8], starts: &mut [u64], ends: &mut [u64]) {
-    let name_end = read_text(name, row.name_fill, row.name);
-    let value_end = read_text(value, row.value_fill, row.value);
+fn run_texts<R: Read, W: Write>(
+    input: &mut R,
+    output: &mut W,
+    row: Row,
+    name: &mut [u8],
+    value: &mut [u8],
+    starts: &mut [u64],
+    ends: &mut [u64],
+) -> io::Result<()> {
+    let name_end = read_text(input, name, row.name_fill, row.name)?;
+    let value_end = read_text(input, value, row.value_fill, row.value)?;
     let mut line_end = [0u8; 1];
-    io::read_full(STDIN_FILENO, &mut line_end);
+    read_full(input, &mut line_end)?;
     let s = least(row.starts, starts.len());
     let e = least(row.ends, ends.len());
     let read = read::read_directive(
@@ -268,15 +307,15 @@ fn run_texts(row: Row, name: &mut [u8], value: &mut [u8], starts: &mut [u64], en
         &mut starts[0..s],
         &mut ends[0..e],
     );
-    write_line(read, &value[..value_end], starts, ends);
+    write_line(output, read, &value[..value_end], starts, ends)
 }
 
 // Runs one row, and answers whether there was one.
-fn run_row() -> bool {
+fn run_row<R: Read, W: Write>(input: &mut R, output: &mut W) -> io::Result<bool> {
     let mut line = [0u8; 42];
-    let got = io::read_full(STDIN_FILENO, &mut line);
+    let got = read_full(input, &mut line)?;
     if got < 42 {
-        return false;
+        return Ok(false);
     }
     let row = row_of(&line);
     let fill = row.fill;
@@ -284,13 +323,24 @@ fn run_row() -> bool {
     let mut value = [fill; 66000];
     let mut starts = [START; 300];
     let mut ends = [END; 300];
-    run_texts(row, &mut name, &mut value, &mut starts, &mut ends);
-    true
+    run_texts(
+        input,
+        output,
+        row,
+        &mut name,
+        &mut value,
+        &mut starts,
+        &mut ends,
+    )?;
+    Ok(true)
 }
 
-fn main() {
+fn main(rt: HostRuntime) -> io::Result<()> {
+    let mut input = rt.reader();
+    let mut output = io::writer(&rt);
     let mut rows: u64 = 100000;
-    while rows > 0 && run_row() {
+    while rows > 0 && run_row(&mut input, &mut output)? {
         rows -= 1;
     }
+    Ok(())
 }

@@ -2,17 +2,15 @@
 -- the ids that the plain list of all of them removes. 02, A.6.
 use Prim.{tt, Unit}
 use Rattle.std.specs.Prelude.{ℕ, zero, suc, ◌≤◌, ◌<◌, ◌≡◌, refl, Bool, true, false, not, cond, ◌||◌, List, [], ◌∷◌, ◌++◌, length, leb, ltb, eqb}
-use Rattle.std.proofs.Common.{sym, ap, ◌∙◌, arith, leb-true, leb-false, eqb-true, lt-ltb, le-ltb, ltb-false}
-use Rattle.std.proofs.lemmas.Bool.{eqb-false}
+use Rattle.std.proofs.Common.{sym, ap, ◌∙◌, arith, leb-true, leb-false, eqb-true, le-ltb, ltb-false}
 use Rattle.reading.specs.declared.Number.{Number}
 use Rattle.reading.specs.declared.IdPart.{IdPart}
 use Rattle.reading.specs.declared.RuleIdRange.{RuleIdRange}
 use Rattle.reading.specs.declared.Place.{Place}
 use Rattle.reading.specs.declared.OptionU64.{OptionU64}
 use Rattle.reading.specs.declared.Verdict.{Verdict}
-use Rattle.reading.specs.declared.UnsupportedReason.{UnsupportedReason}
 use Rattle.reading.specs.Limits.{most_ranges, most_targets}
-use Rattle.reading.specs.Lists.{keep, any, gather}
+use Rattle.reading.specs.Lists.{keep, gather}
 use Rattle.reading.specs.Text.{ascii, same, trim, fold, holds_byte, cut_before, cut_after, number_of, one_id, ids_to, ids_from, id_part, range_in, id_parts, any_bad, ranges_in}
 use Rattle.reading.specs.Directive.{Directive, rule_engine, rule_remove_by_id, rule_remove_target_by_id, request_body_access, request_body_processor, unsupported, engine_value, removal_value, target_value, access_value, processor_value, other_named, directive_named, directive_of, ranges_of}
 use Rattle.reading.specs.Ranges.{is_merged, add_range, add_ranges}

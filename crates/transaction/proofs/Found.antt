@@ -1,5 +1,5 @@
 -- The visit that the code makes is the definition's. Assumes nothing.
-use Prim.Native.Nat.{ℕ, ◌+◌, ◌-◌, ◌≤◌, ◌<◌, min}
+use Prim.Native.Nat.{ℕ, ◌+◌, ◌≤◌, ◌<◌, min}
 use mathlib.Core.Path.{◌≡◌, refl, sym, ap, ◌∙◌}
 use mathlib.Core.Bool.{Bool, true, false, cond}
 use mathlib.Core.List.{List, [], ◌∷◌, ◌++◌, append-nil}
@@ -14,7 +14,7 @@ use Rattle.reading.specs.declared.RuleEngineMode.{RuleEngineMode}
 use Rattle.reading.specs.Lists.{keep}
 use Rattle.reading.specs.Numbers.{verdict_number, mode_of_number}
 use Rattle.reading.specs.Reading.{rust}
-use Rattle.reading.specs.Controls.{Controls, is_removed, range_list, mode_or}
+use Rattle.reading.specs.Controls.{Controls, mode_or}
 use Rattle.reading.specs.Call.{Given, rule_count, rule_at, id_at, outcome_at, record_id, is_link, no_rule, mode_under}
 use Rattle.reading.specs.Units.{unit_controls, unit_flow}
 use Rattle.reading.specs.Walk.{State, Visit, visit_by, visit_at, verdict_at, verdict_by, after_chain, after_flow, entry_of, chain_rest}

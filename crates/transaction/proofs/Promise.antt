@@ -31,7 +31,7 @@ use Rattle.theorems.specs.WithinLimits.{accepted-visits, ids-within, data-within
 use Rattle.lists.proofs.RecordLaws.{length-records}
 use Rattle.theorems.specs.Reported.{report-told}
 use Rattle.unit.proofs.members.WordLaws.{journal-over, journal-written, data-free-end, length-journal-words}
-use Rattle.control.specs.ControlsStruct.{controls_of, Became}
+use Rattle.control.specs.ControlsStruct.{controls_of}
 use Rattle.apply.specs.AddedRanges.{adds_ranges}
 use Rattle.apply.specs.Codes.{codes_of}
 use Rattle.refusals.specs.FirstRefusal.{first_of_seven}

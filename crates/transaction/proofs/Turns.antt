@@ -1,5 +1,5 @@
 -- Laws of the walk: its turns, lists of its visits with one more, and visits none of which is the last. Assumes nothing.
-use Prim.Native.Nat.{ℕ, zero, suc, ◌+◌, ◌-◌, ◌≤◌, ◌<◌, min}
+use Prim.Native.Nat.{ℕ, zero, suc, ◌+◌, ◌≤◌, ◌<◌, min}
 use mathlib.Core.Path.{◌≡◌, refl, sym, ap, ◌∙◌}
 use mathlib.Core.Bool.{Bool, true, false, not, cond, ◌&&◌, ◌||◌}
 use mathlib.Core.List.{List, [], ◌∷◌, ◌++◌, append_assoc}
@@ -10,9 +10,9 @@ use Rattle.reading.specs.declared.JournalEntry.{JournalEntry}
 use Rattle.reading.specs.declared.Verdict.{Verdict}
 use Rattle.reading.specs.Lists.{any, keep, gather}
 use Rattle.reading.specs.Controls.{Controls, is_off}
-use Rattle.reading.specs.Call.{Given, rule_count, mode_under, is_link}
+use Rattle.reading.specs.Call.{Given, rule_count, mode_under}
 use Rattle.reading.specs.Units.{unit_ids, unit_data}
-use Rattle.reading.specs.Walk.{State, Visit, Ending, goes_on, allows, errs, stops, is_last, visit_by, visit_at, verdict_at, is_visited}
+use Rattle.reading.specs.Walk.{State, Visit, Ending, goes_on, allows, errs, stops, is_last, visit_by, visit_at, is_visited}
 use Rattle.reading.specs.Walk.{walk, entry_of, journal_of, closed_in, ids_of, data_of, controls_after, gives_allow, allowed_by}
 use Rattle.reading.specs.Walk.{intervention_by, is_error, answer_by, error_index_by}
 use Rattle.reading.specs.Directive.{Directive}

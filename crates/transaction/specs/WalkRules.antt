@@ -31,7 +31,6 @@ use Rattle.transaction.specs.declared.types.Transaction.{Transaction}
 use Rattle.transaction.specs.declared.types.Phase.{Phase}
 use Rattle.transaction.specs.declared.types.WalkState.{WalkState}
 use Rattle.transaction.specs.declared.types.AfterUnit.{AfterUnit}
-use Rattle.transaction.specs.declared.types.End.{End}
 use Rattle.transaction.specs.RunPhase.{transaction_of}
 
 -- a transaction without allow and intervention

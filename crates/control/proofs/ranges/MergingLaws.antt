@@ -1,20 +1,19 @@
 -- Ranges merged in place: a range in hand goes along the list, and several do so one after the other. Assumes nothing.
 use Prim.Native.Nat.{ℕ, zero, suc, ◌+◌, ◌-◌, ◌≤◌, ◌<◌, min, max}
 use mathlib.Core.Path.{◌≡◌, refl, sym, ap, ◌∙◌}
-use mathlib.Core.Bool.{Bool, true, false}
-use mathlib.Core.List.{List, [], ◌∷◌, ◌++◌, map, append_assoc, append-nil}
+use mathlib.Core.Bool.{true, false}
+use mathlib.Core.List.{List, [], ◌∷◌, ◌++◌, append_assoc, append-nil}
 use native.Mathlib.Omega.{arith}
 use native.Mathlib.Numerals.{add-one}
 use lib.Dec.{ltb}
 use lib.ListN.{length, take, drop, get_or, set, replicate, length-set, length-append, length-replicate, length-drop, take-append-drop}
 use lib.Seq.{take-suc, take-suc-set, take_at, drop_at, drop-drop, drop-set-lt, get_or-drop, get_or-set_same, length-take-le}
 use Rattle.reading.specs.declared.RuleIdRange.{RuleIdRange}
-use Rattle.reading.specs.Directive.{start_of, end_of}
 use Rattle.reading.specs.Ranges.{is_apart, joined, add_range, add_ranges}
 use Rattle.reading.specs.Controls.{range_list}
 use Rattle.theorems.specs.MergedRanges.{length-added}
-use Rattle.control.specs.Merging.{Room, MergedOne, Within, Merged, Unchanged, MergedAfter}
-use Rattle.control.proofs.fields.PairLaws.{range_of, pairs-past, entry_at}
+use Rattle.control.specs.Merging.{Room, MergedOne, Within, Merged, MergedAfter}
+use Rattle.control.proofs.fields.PairLaws.{range_of, pairs-past}
 use Rattle.control.proofs.ranges.RowLaws.{row, rows_from, rows_all, rows-length, rows_drop, rows-front}
 
 -- ONE RANGE

@@ -4,10 +4,10 @@ use mathlib.Core.Path.{◌≡◌, refl, sym, ap, ◌∙◌}
 use mathlib.Core.Bool.{Bool, true, false, not, cond, ◌||◌}
 use mathlib.Core.List.{List, [], ◌∷◌, ◌++◌, map, append-nil}
 use native.Mathlib.Omega.{arith}
-use borrow.Author.Tests.{ltb-true, ltb-false, le-ltb, lt-leb, eq-eqb, ne_eqb, not-false}
-use lib.Dec.{ltb, leb, eqb}
+use borrow.Author.Tests.{ltb-true, ltb-false, le-ltb, lt-leb, eq-eqb, not-false}
+use lib.Dec.{ltb, leb}
 use lib.ListN.{length, take, drop, set, replicate, drop_of_length-le, length-map, length-append, length-replicate, length-set, replicate-append-replicate}
-use lib.Seq.{take_all, sets, length-sets, drop-set-lt, drop_at, take_at, drop-drop, length-take-le}
+use lib.Seq.{take_all, sets, drop-set-lt, drop_at, take_at, drop-drop, length-take-le}
 use Rattle.reading.specs.declared.RuleIdRange.{RuleIdRange}
 use Rattle.reading.specs.declared.Place.{Place}
 use Rattle.reading.specs.Directive.{start_of, end_of}
@@ -16,7 +16,6 @@ use Rattle.reading.specs.Controls.{bad_controls, add_range_answer, add_target_an
 use Rattle.reading.specs.Controls as reading
 use Rattle.theorems.specs.MergedRanges as form
 use Rattle.control.specs.declared.state.Controls.{Controls}
-use Rattle.control.specs.declared.state.ChangeAnswer.{ChangeAnswer}
 use Rattle.control.specs.ControlsStruct.{controls_of, RangesKept, RestCleared, Became, Added}
 use Rattle.control.specs.Merging.{Merged, MergedAfter, cleared_from}
 use Rattle.control.proofs.fields.PairLaws.{range_of, place_of, length_pairs}

@@ -1,5 +1,4 @@
 use Rattle.abi.specs.HostControls.{controls_to_host}
-use borrow.Author.Rules.{rules}
 use Rattle.abi.proofs.host_controls.controls_to_host.Goals as goal
 
 pub returns : goal.returns

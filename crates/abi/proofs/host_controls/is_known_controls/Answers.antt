@@ -1,5 +1,4 @@
 use Rattle.abi.specs.HostControls.{known_controls}
-use borrow.Author.Rules.{rules}
 use Rattle.abi.proofs.host_controls.is_known_controls.Goals as goal
 
 pub returns : goal.returns

@@ -1,6 +1,5 @@
 use mathlib.Core.Path.{sym, ap, ◌∙◌}
 use Rattle.abi.specs.HostIntervention.{host_intervention}
-use borrow.Author.Rules.{rules}
 use Rattle.abi.proofs.host_intervention.host_intervention.Goals as goal
 
 pub returns-in-None : goal.returns-in-None

@@ -1,5 +1,4 @@
 use Rattle.abi.specs.HostIntervention.{host_metadata}
-use borrow.Author.Rules.{rules}
 use Rattle.abi.proofs.host_intervention.host_metadata.Goals as goal
 
 pub returns : goal.returns

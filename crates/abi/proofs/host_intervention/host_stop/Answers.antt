@@ -1,5 +1,4 @@
 use Rattle.abi.specs.HostIntervention.{host_stop}
-use borrow.Author.Rules.{rules}
 use Rattle.abi.proofs.host_intervention.host_stop.Goals as goal
 
 pub returns : goal.returns

@@ -1,7 +1,6 @@
 use borrow.Author.Tests.{eq-eqb, ne_eqb}
 use Rattle.reading.specs.declared.OptionIntervention.{OptionIntervention}
 use Rattle.abi.specs.HostIntervention.{intervention_of}
-use borrow.Author.Rules.{rules}
 use Rattle.abi.proofs.host_intervention.intervention_of.Goals as goal
 
 pub returns-then-h-eq1 : goal.returns-then-h-eq1

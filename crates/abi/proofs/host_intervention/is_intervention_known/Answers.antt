@@ -1,7 +1,6 @@
 use mathlib.Core.Path.{sym, ◌∙◌}
-use borrow.Author.Tests.{not-true, not-false, eq-eqb, ne_eqb}
+use borrow.Author.Tests.{eq-eqb, ne_eqb}
 use Rattle.abi.specs.HostIntervention.{intervention_known}
-use borrow.Author.Rules.{rules}
 use Rattle.abi.proofs.host_intervention.is_intervention_known.Goals as goal
 
 pub returns-then-h-eq0 : goal.returns-then-h-eq0

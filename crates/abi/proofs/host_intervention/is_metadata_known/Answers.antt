@@ -1,6 +1,5 @@
 use mathlib.Core.Path.{sym, ◌∙◌}
 use Rattle.abi.specs.HostIntervention.{metadata_known}
-use borrow.Author.Rules.{rules}
 use Rattle.abi.proofs.host_intervention.is_metadata_known.Goals as goal
 
 pub returns-then-not-is_number_known : goal.returns-then-not-is_number_known

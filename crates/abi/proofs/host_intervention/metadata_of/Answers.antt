@@ -1,5 +1,4 @@
 use Rattle.abi.specs.HostIntervention.{metadata_of}
-use borrow.Author.Rules.{rules}
 use Rattle.abi.proofs.host_intervention.metadata_of.Goals as goal
 
 pub returns : goal.returns

@@ -1,5 +1,4 @@
 use Rattle.abi.specs.HostRecord.{from_host}
-use borrow.Author.Rules.{rules}
 use Rattle.abi.proofs.host_phase.from_host.Goals as goal
 
 pub returns : goal.returns

@@ -1,6 +1,5 @@
 use mathlib.Core.Path.{sym, ◌∙◌}
 use Rattle.abi.specs.HostRecord.{known}
-use borrow.Author.Rules.{rules}
 use Rattle.abi.proofs.host_phase.is_known.Goals as goal
 
 pub returns-then-not-is_flag : goal.returns-then-not-is_flag

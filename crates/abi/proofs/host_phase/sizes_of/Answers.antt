@@ -1,4 +1,3 @@
-use borrow.Author.Rules.{rules}
 use Rattle.control.proofs.state.HeldLaws.{bad}
 use Rattle.abi.specs.HostRecord.{from_host}
 use Rattle.abi.specs.HostControls.{controls_from_host}

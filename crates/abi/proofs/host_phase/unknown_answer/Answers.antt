@@ -1,5 +1,4 @@
 use mathlib.Core.Path.{sym, ◌∙◌}
-use borrow.Author.Rules.{rules}
 use Rattle.abi.proofs.host_phase.HostLaws.{none_of_four, one-of-four}
 use Rattle.abi.proofs.host_phase.unknown_answer.Goals as goal
 

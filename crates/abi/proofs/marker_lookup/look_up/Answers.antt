@@ -1,4 +1,3 @@
-use borrow.Author.Rules.{rules}
 use mathlib.Core.Path.{sym, ap, ◌∙◌}
 use Rattle.abi.specs.MarkerLookup.{answered}
 use Rattle.abi.proofs.marker_lookup.LookupLaws.{refused, accepted}

@@ -1,9 +1,6 @@
 use borrow.Author.Rules.{rules}
-use Prim.Native.Nat.{◌*◌}
-use mathlib.Core.Path.{◌≡◌, sym, ◌∙◌}
-use native.Mathlib.Omega.{arith}
-use lib.ListN.{length, length-map}
-use Rattle.lists.proofs.Slices.{front_length}
+use mathlib.Core.Path.{◌≡◌, ◌∙◌}
+use lib.ListN.{length}
 use Rattle.abi.proofs.marker_lookup.LookupLaws.{refused-markers, many-unpacked}
 use Rattle.abi.proofs.marker_lookup.look_up_words.Goals as goal
 

@@ -1,10 +1,10 @@
-use Prim.Native.Nat.{ℕ, ◌*◌, ◌+◌}
-use mathlib.Core.Path.{◌≡◌, sym, ap, ◌∙◌}
+use Prim.Native.Nat.{ℕ}
+use mathlib.Core.Path.{◌≡◌, ap, ◌∙◌}
 use mathlib.Core.List.{List}
 use native.Mathlib.Omega.{arith}
 use lib.ListN.{length, get_or, take}
 use Rattle.abi.specs.declared.marker_words.MarkerWords.{MarkerWords}
-use Rattle.abi.specs.MarkerWords.{words_of, copy_count, marker_words_of}
+use Rattle.abi.specs.MarkerWords.{words_of, copy_count}
 use Rattle.abi.proofs.marker_words.Padded.{no_marker, three_set, next-words, few-copied, all_words}
 use Rattle.abi.proofs.marker_words.unpack.Goals as goal
 
@@ -14,11 +14,14 @@ made ws n = record { words = ws; count = n }
 pub loop-i-preserved : goal.loop-i-preserved
 loop-i-preserved c =
     let ms = c.args.markers.now in
-    let few = few-copied (length ms) in
-    (omega arith,
-    (ap (λ (ws : List ℕ). three_set ws c.loop-i.i (get_or ms c.loop-i.i no_marker)) c.loop-i.invariant.1.0
-    ∙ next-words ms c.loop-i.i (omega (arith, few.0, c.copy_count-n.ensures)) (omega (arith, few.1, c.copy_count-n.ensures)),
-    c.loop-i.invariant.1.1))
+    let few = few-copied (length ms) in (
+      omega arith,
+      (
+        ap (λ (ws : List ℕ). three_set ws c.loop-i.i (get_or ms c.loop-i.i no_marker)) c.loop-i.invariant.1.0
+            ∙ next-words ms c.loop-i.i (omega (arith, few.0, c.copy_count-n.ensures)) (omega (arith, few.1, c.copy_count-n.ensures)),
+        c.loop-i.invariant.1.1,
+      ),
+    )
 
 pub returns : goal.returns
 returns c =

@@ -1,12 +1,9 @@
-use borrow.Author.Rules.{rules}
-use Prim.Native.Nat.{◌+◌, ◌-◌, ◌/◌, ◌≤◌, ◌<◌, min}
+use Prim.Native.Nat.{◌+◌, ◌-◌, ◌/◌, ◌<◌, min}
 use mathlib.Core.Path.{◌≡◌}
 use native.Mathlib.Omega.{arith}
 use lib.ListN.{length}
-use Rattle.reading.specs.Records.{action_list}
 use Rattle.actions.proofs.execute.SlotLaws.{slot-below}
-use Rattle.actions.proofs.execute.PlacedLaws.{up_to}
-use Rattle.actions.proofs.execute.Sofar.{Sofar, sofar-none, sofar-length, sofar-turn, sofar-end}
+use Rattle.actions.proofs.execute.Sofar.{sofar-none, sofar-turn, sofar-end}
 use Rattle.actions.proofs.execute.execute_actions.Goals as goal
 
 pub loop-i-init : goal.loop-i-init

@@ -1,12 +1,7 @@
-use borrow.Author.Rules.{rules}
-use Prim.Native.Nat.{◌+◌, ◌-◌, ◌/◌, ◌≤◌, ◌<◌, min}
-use mathlib.Core.Path.{◌≡◌}
-use native.Mathlib.Omega.{arith}
-use lib.ListN.{length}
+use Prim.Native.Nat.{◌-◌, ◌≤◌}
 use Rattle.reading.specs.Records.{action_list}
-use Rattle.actions.proofs.execute.SlotLaws.{slot-below}
 use Rattle.actions.proofs.execute.PlacedLaws.{up_to}
-use Rattle.actions.proofs.execute.Sofar.{Sofar, sofar-none, sofar-length, sofar-turn, sofar-end}
+use Rattle.actions.proofs.execute.Sofar.{Sofar}
 use Rattle.actions.proofs.execute.execute_actions.Given as goal
 
 abbrev pub invariant-loop-i : goal.invariant-loop-i

@@ -1,4 +1,3 @@
-use borrow.Author.Rules.{rules}
 use mathlib.Core.Path.{sym}
 use Rattle.lists.proofs.RecordLaws.{action-is, action-past}
 use Rattle.actions.proofs.record.action_at.Goals as goal

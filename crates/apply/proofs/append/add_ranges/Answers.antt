@@ -1,6 +1,5 @@
 use borrow.Author.Rules.{rules}
 use mathlib.Core.Path.{◌≡◌}
-use native.Mathlib.Omega.{arith}
 use lib.ListN.{length}
 use Rattle.apply.proofs.append.LentLaws.{lent_none, lent-merged}
 use Rattle.apply.proofs.append.add_ranges.Goals as goal

@@ -1,5 +1,4 @@
 use Rattle.apply.proofs.append.WrittenLaws.{written_after}
-use borrow.Author.Rules.{rules}
 use Rattle.apply.proofs.append.write_after.Goals as goal
 
 pub returns : goal.returns

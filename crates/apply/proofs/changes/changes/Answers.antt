@@ -1,10 +1,8 @@
-use borrow.Author.Rules.{rules}
-use Prim.Native.Nat.{◌-◌, ◌≤◌}
-use mathlib.Core.Path.{◌≡◌, refl, sym, ap, ◌∙◌}
+use mathlib.Core.Path.{sym, ap, ◌∙◌}
 use native.Mathlib.Omega.{arith}
-use Rattle.reading.specs.Records.{rule_list, journal_list, matched_in}
+use Rattle.reading.specs.Records.{rule_list}
 use Rattle.apply.specs.UnitChanges.{unit_changes}
-use Rattle.apply.proofs.changes.MemberLaws.{members_from, members-end, unit-found, unit-more}
+use Rattle.apply.proofs.changes.MemberLaws.{members-end, unit-found, unit-more}
 use Rattle.apply.proofs.changes.changes.Goals as goal
 
 pub returns-then-entry_changes : goal.returns-then-entry_changes

@@ -1,10 +1,8 @@
-use borrow.Author.Rules.{rules}
 use Prim.Native.Nat.{◌-◌, ◌≤◌}
-use mathlib.Core.Path.{◌≡◌, refl, sym, ap, ◌∙◌}
-use native.Mathlib.Omega.{arith}
+use mathlib.Core.Path.{◌≡◌}
 use Rattle.reading.specs.Records.{rule_list, journal_list, matched_in}
 use Rattle.apply.specs.UnitChanges.{unit_changes}
-use Rattle.apply.proofs.changes.MemberLaws.{members_from, members-end, unit-found, unit-more}
+use Rattle.apply.proofs.changes.MemberLaws.{members_from}
 use Rattle.apply.proofs.changes.changes.Given as goal
 
 abbrev pub invariant-loop-i : goal.invariant-loop-i

@@ -1,10 +1,8 @@
-use borrow.Author.Rules.{rules}
-use Prim.Native.Nat.{◌-◌, ◌≤◌}
-use mathlib.Core.Path.{◌≡◌, refl, ◌∙◌}
+use Prim.Native.Nat.{◌≤◌}
+use mathlib.Core.Path.{◌∙◌}
 use native.Mathlib.Omega.{arith}
 use lib.ListN.{length}
-use Rattle.reading.specs.Lists.{any}
-use Rattle.apply.proofs.changes.CodeLaws.{slice, is_change, changes-none, changes-found, changes-more, changes-end}
+use Rattle.apply.proofs.changes.CodeLaws.{changes-none, changes-found, changes-more, changes-end}
 use Rattle.apply.proofs.changes.rule_changes.Goals as goal
 
 pub returns-then-codes-i-gt-LAST_REASON : goal.returns-then-codes-i-gt-LAST_REASON

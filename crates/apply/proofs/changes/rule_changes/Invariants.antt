@@ -1,10 +1,7 @@
-use borrow.Author.Rules.{rules}
 use Prim.Native.Nat.{◌-◌, ◌≤◌}
-use mathlib.Core.Path.{◌≡◌, refl, ◌∙◌}
-use native.Mathlib.Omega.{arith}
-use lib.ListN.{length}
+use mathlib.Core.Path.{◌≡◌}
 use Rattle.reading.specs.Lists.{any}
-use Rattle.apply.proofs.changes.CodeLaws.{slice, is_change, changes-none, changes-found, changes-more, changes-end}
+use Rattle.apply.proofs.changes.CodeLaws.{slice, is_change}
 use Rattle.apply.proofs.changes.rule_changes.Given as goal
 
 abbrev pub invariant-loop-i : goal.invariant-loop-i

@@ -6,7 +6,6 @@ use Rattle.reading.specs.Records.{action_list}
 use Rattle.reading.specs.Walk.{no_action}
 use Rattle.reading.specs.declared.Action.{Action}
 use Rattle.apply.specs.Codes.{same_texts}
-use borrow.Author.Rules.{rules}
 use Rattle.apply.proofs.codes.Writing.{code-none, code-ctl, code-again}
 use Rattle.apply.proofs.codes.code_at.Goals as goal
 

@@ -1,16 +1,13 @@
-use borrow.Author.Rules.{rules}
-use Prim.Native.Nat.{◌-◌, ◌≤◌, ◌<◌, min}
-use mathlib.Core.Path.{◌≡◌, refl, ap, ◌∙◌}
-use mathlib.Core.Logic.{⊎_elim, inl, inr}
+use Prim.Native.Nat.{◌<◌, min}
+use mathlib.Core.Path.{◌≡◌, ap, ◌∙◌}
+use mathlib.Core.Logic.{inl, inr}
 use native.Mathlib.Omega.{arith}
-use lib.ListN.{length, take, get_or}
-use Rattle.reading.specs.Walk.{no_action}
+use lib.ListN.{length}
 use Rattle.reading.specs.Lists.{any}
 use Rattle.reading.specs.Records.{action_list}
 use Rattle.lists.proofs.RecordLaws.{length-actions}
-use Rattle.actions.proofs.execute.ControlLaws.{fitting}
-use Rattle.apply.specs.Codes.{codes_of, is_reason, IsCodeOf}
-use Rattle.apply.proofs.codes.Writing.{codes-none, codes-more, codes-front, codes_all, codes-length, seen_more, last_more}
+use Rattle.apply.specs.Codes.{is_reason}
+use Rattle.apply.proofs.codes.Writing.{codes-more, codes-front, codes_all, seen_more, last_more}
 use Rattle.apply.proofs.codes.write_codes.Goals as goal
 use Rattle.apply.proofs.codes.write_codes.Goals.{then-code-ne0, else-code-ne0, then-is_reason, else-is_reason}
 
@@ -25,13 +22,13 @@ loop-i-preserved c =
       seen_more a.text.now (action_list a.actions.now) c.loop-i.unsupported c.loop-i.i _ c.is_reason.result c.if-is_reason.unsupported
           inside is c.is_reason.ensures
           (elim c.if-is_reason.branch [
-            then-is_reason w ↦ inl (w.if-is_reason.true, w.unsupported-is)
-          | else-is_reason w ↦ inr (w.if-is_reason.false, w.unsupported-is)
+            | then-is_reason w ↦ inl (w.if-is_reason.true, w.unsupported-is)
+            | else-is_reason w ↦ inr (w.if-is_reason.false, w.unsupported-is)
           ]) c.loop-i.invariant.2,
       last_more a.text.now (action_list a.actions.now) c.loop-i.last c.loop-i.last_code c.loop-i.i code.result c.if-code-ne0.last c.if-code-ne0.last_code is
           (elim c.if-code-ne0.branch [
-            then-code-ne0 w ↦ inl (w.last-is, w.last_code-is)
-          | else-code-ne0 w ↦ inr (w.last-is, w.last_code-is)
+            | then-code-ne0 w ↦ inl (w.last-is, w.last_code-is)
+            | else-code-ne0 w ↦ inr (w.last-is, w.last_code-is)
           ]) c.loop-i.invariant.3,
     )
 

@@ -1,16 +1,11 @@
-use borrow.Author.Rules.{rules}
-use Prim.Native.Nat.{◌-◌, ◌≤◌, ◌<◌, min}
-use mathlib.Core.Path.{◌≡◌, refl, ap, ◌∙◌}
-use mathlib.Core.Logic.{⊎_elim, inl, inr}
-use native.Mathlib.Omega.{arith}
-use lib.ListN.{length, take, get_or}
+use Prim.Native.Nat.{◌-◌, ◌≤◌}
+use mathlib.Core.Path.{◌≡◌}
+use lib.ListN.{take, get_or}
 use Rattle.reading.specs.Walk.{no_action}
 use Rattle.reading.specs.Lists.{any}
 use Rattle.reading.specs.Records.{action_list}
-use Rattle.lists.proofs.RecordLaws.{length-actions}
 use Rattle.actions.proofs.execute.ControlLaws.{fitting}
 use Rattle.apply.specs.Codes.{codes_of, is_reason, IsCodeOf}
-use Rattle.apply.proofs.codes.Writing.{codes-none, codes-more, codes-front, codes_all, codes-length, seen_more, last_more}
 use Rattle.apply.proofs.codes.write_codes.Given as goal
 
 abbrev pub invariant-loop-i : goal.invariant-loop-i

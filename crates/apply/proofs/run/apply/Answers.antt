@@ -2,7 +2,6 @@ use mathlib.Core.Path.{ap, ◌∙◌}
 use Rattle.reading.specs.declared.Action.{Action}
 use Rattle.reading.specs.Text.{part_of}
 use Rattle.apply.proofs.run.StepLaws.{turned_set, turned-target, turned-ranges}
-use borrow.Author.Rules.{rules}
 use Rattle.apply.proofs.run.apply.Goals as goal
 
 pub returns-then-code-le-XML : goal.returns-then-code-le-XML

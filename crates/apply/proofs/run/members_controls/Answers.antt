@@ -1,8 +1,4 @@
-use Prim.Native.Nat.{◌+◌, ◌-◌, ◌<◌, ◌^◌}
-use native.Mathlib.Omega.{arith}
-use Rattle.reading.specs.Records.{rule_list, action_list}
-use Rattle.apply.specs.Append.{struct_of}
-use Rattle.apply.proofs.run.UnitLaws.{Across, across-none, across-more, across-end}
+use Rattle.apply.proofs.run.UnitLaws.{across-more, across-end}
 use Rattle.apply.proofs.run.members_controls.Goals as goal
 
 pub loop-i-preserved : goal.loop-i-preserved

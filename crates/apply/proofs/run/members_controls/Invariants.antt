@@ -1,8 +1,7 @@
-use Prim.Native.Nat.{◌+◌, ◌-◌, ◌<◌, ◌^◌}
-use native.Mathlib.Omega.{arith}
+use Prim.Native.Nat.{◌-◌}
 use Rattle.reading.specs.Records.{rule_list, action_list}
 use Rattle.apply.specs.Append.{struct_of}
-use Rattle.apply.proofs.run.UnitLaws.{Across, across-none, across-more, across-end}
+use Rattle.apply.proofs.run.UnitLaws.{Across}
 use Rattle.apply.proofs.run.members_controls.Given as goal
 
 abbrev pub invariant-loop-i : goal.invariant-loop-i

@@ -1,14 +1,7 @@
-use Prim.Native.Nat.{◌-◌, ◌≤◌}
+use Prim.Native.Nat.{◌≤◌}
 use native.Mathlib.Omega.{arith}
 use lib.ListN.{length}
-use Rattle.reading.specs.Lists.{any}
-use Rattle.reading.specs.Records.{action_list}
-use Rattle.control.specs.ControlsStruct.{controls_of}
-use Rattle.apply.specs.UnitCodes.{applied_codes}
-use Rattle.apply.specs.Append.{struct_of}
-use Rattle.apply.proofs.changes.CodeLaws.{slice}
-use Rattle.apply.proofs.run.RuleLaws.{is_adding, Going, going-none, going_more, going_end}
-use borrow.Author.Rules.{rules}
+use Rattle.apply.proofs.run.RuleLaws.{going_more, going_end}
 use Rattle.apply.proofs.run.rule_controls.Goals as goal
 
 pub loop-i-preserved : goal.loop-i-preserved

@@ -1,14 +1,11 @@
 use Prim.Native.Nat.{◌-◌, ◌≤◌}
-use native.Mathlib.Omega.{arith}
-use lib.ListN.{length}
 use Rattle.reading.specs.Lists.{any}
 use Rattle.reading.specs.Records.{action_list}
 use Rattle.control.specs.ControlsStruct.{controls_of}
 use Rattle.apply.specs.UnitCodes.{applied_codes}
 use Rattle.apply.specs.Append.{struct_of}
 use Rattle.apply.proofs.changes.CodeLaws.{slice}
-use Rattle.apply.proofs.run.RuleLaws.{is_adding, Going, going-none, going_more, going_end}
-use borrow.Author.Rules.{rules}
+use Rattle.apply.proofs.run.RuleLaws.{is_adding, Going}
 use Rattle.apply.proofs.run.rule_controls.Given as goal
 
 abbrev pub invariant-loop-i : goal.invariant-loop-i

@@ -1,5 +1,4 @@
 use mathlib.Core.Path.{sym, ◌∙◌}
-use borrow.Author.Tests.{not-true}
 use Rattle.reading.specs.Records.{rule_list, journal_list, matched_in}
 use Rattle.apply.proofs.run.Fits.{unit-unchanged}
 use Rattle.apply.proofs.run.unit_controls.Goals as goal

@@ -1,7 +1,6 @@
 use mathlib.Core.Path.{sym}
 use Rattle.apply.specs.SettingCodes.{settings_after}
 use Rattle.apply.proofs.settings.SettingLaws.{settings-left}
-use borrow.Author.Rules.{rules}
 use Rattle.apply.proofs.settings.set_by_code.Goals as goal
 
 pub returns-then-code-eq-MODE_ON : goal.returns-then-code-eq-MODE_ON

@@ -1,4 +1,3 @@
-use borrow.Author.Rules.{rules}
 use Rattle.control.specs.ControlsStruct.{controls_of}
 use Rattle.control.proofs.queries.Asking.{refuses, gives}
 use Rattle.control.proofs.queries.request_body_access.Goals as goal

@@ -1,4 +1,3 @@
-use borrow.Author.Rules.{rules}
 use mathlib.Core.Path.{refl}
 use Rattle.control.specs.ControlsStruct.{controls_of}
 use Rattle.control.proofs.queries.Asking.{refuses, gives}

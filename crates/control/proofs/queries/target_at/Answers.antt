@@ -1,9 +1,5 @@
-use borrow.Author.Rules.{rules}
-use Prim.Native.Nat.{◌<◌}
 use mathlib.Core.Path.{sym}
-use native.Mathlib.Omega.{arith}
 use Rattle.control.specs.ControlsStruct.{controls_of}
-use Rattle.control.proofs.state.HeldLaws.{not-bad}
 use Rattle.control.proofs.queries.Asking.{refuses, gives}
 use Rattle.control.proofs.fields.PairLaws.{no_target, target_at}
 use Rattle.control.proofs.queries.target_at.Goals as goal

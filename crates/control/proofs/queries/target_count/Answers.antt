@@ -1,4 +1,3 @@
-use borrow.Author.Rules.{rules}
 use mathlib.Core.Path.{sym}
 use Rattle.control.proofs.state.HeldLaws.{targets-length}
 use Rattle.control.proofs.queries.Asking.{refuses, gives}

@@ -1,6 +1,5 @@
-use Prim.Native.Nat.{◌-◌, ◌≤◌}
 use native.Mathlib.Omega.{arith}
-use Rattle.control.proofs.ranges.MergingLaws.{Cleared, cleared-start, cleared_more, cleared-done}
+use Rattle.control.proofs.ranges.MergingLaws.{cleared_more}
 use Rattle.control.proofs.ranges.clear.Goals as goal
 
 pub loop-i-preserved : goal.loop-i-preserved

@@ -1,6 +1,5 @@
 use Prim.Native.Nat.{◌-◌, ◌≤◌}
-use native.Mathlib.Omega.{arith}
-use Rattle.control.proofs.ranges.MergingLaws.{Cleared, cleared-start, cleared_more, cleared-done}
+use Rattle.control.proofs.ranges.MergingLaws.{Cleared}
 use Rattle.control.proofs.ranges.clear.Given as goal
 
 abbrev pub invariant-loop-i : goal.invariant-loop-i

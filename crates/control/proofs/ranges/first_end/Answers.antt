@@ -1,6 +1,4 @@
-use Prim.Native.Nat.{◌-◌}
-use native.Mathlib.Omega.{arith}
-use Rattle.control.proofs.ranges.HalvingLaws.{Searching, search-start, search-up, search-down, search-done}
+use Rattle.control.proofs.ranges.HalvingLaws.{search-start, search-up, search-down, search-done}
 use Rattle.control.proofs.ranges.first_end.Goals as goal
 
 pub loop-low-init : goal.loop-low-init

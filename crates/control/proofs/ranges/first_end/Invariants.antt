@@ -1,6 +1,5 @@
 use Prim.Native.Nat.{◌-◌}
-use native.Mathlib.Omega.{arith}
-use Rattle.control.proofs.ranges.HalvingLaws.{Searching, search-start, search-up, search-down, search-done}
+use Rattle.control.proofs.ranges.HalvingLaws.{Searching}
 use Rattle.control.proofs.ranges.first_end.Given as goal
 
 abbrev pub invariant-loop-low : goal.invariant-loop-low

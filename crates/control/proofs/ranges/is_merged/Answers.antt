@@ -1,8 +1,6 @@
-use borrow.Author.Rules.{rules}
-use Prim.Native.Nat.{◌-◌, ◌≤◌}
 use mathlib.Core.Path.{sym, ◌∙◌}
 use native.Mathlib.Omega.{arith}
-use Rattle.control.proofs.ranges.FormLaws.{Left, form-none, first-bad, first_good, next-bad, next-good, form-through}
+use Rattle.control.proofs.ranges.FormLaws.{first-bad, first_good, next-good}
 use Rattle.control.proofs.ranges.is_merged.Goals as goal
 
 pub returns-then-last-starts : goal.returns-then-last-starts

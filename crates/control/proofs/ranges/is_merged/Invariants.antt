@@ -1,8 +1,5 @@
-use borrow.Author.Rules.{rules}
 use Prim.Native.Nat.{◌-◌, ◌≤◌}
-use mathlib.Core.Path.{sym, ◌∙◌}
-use native.Mathlib.Omega.{arith}
-use Rattle.control.proofs.ranges.FormLaws.{Left, form-none, first-bad, first_good, next-bad, next-good, form-through}
+use Rattle.control.proofs.ranges.FormLaws.{Left}
 use Rattle.control.proofs.ranges.is_merged.Given as goal
 
 abbrev pub invariant-loop-i : goal.invariant-loop-i

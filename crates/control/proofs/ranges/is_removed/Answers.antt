@@ -1,4 +1,3 @@
-use borrow.Author.Rules.{rules}
 use native.Mathlib.Omega.{arith}
 use Rattle.control.proofs.ranges.HalvingLaws.{found_none, found-empty, found_below, found_at, found-not}
 use Rattle.control.proofs.ranges.is_removed.Goals as goal

@@ -1,9 +1,6 @@
-use borrow.Author.Rules.{rules}
-use Prim.Native.Nat.{◌-◌}
-use mathlib.Core.Path.{refl, ◌∙◌}
-use native.Mathlib.Omega.{arith}
+use mathlib.Core.Path.{refl}
 use Rattle.control.specs.Merging.{Within}
-use Rattle.control.proofs.ranges.MergingLaws.{Taking, taken_start, room, taken_more, taken-all, merge_none, merge-all}
+use Rattle.control.proofs.ranges.MergingLaws.{taken_start, taken_more, taken-all, merge-all}
 use Rattle.control.proofs.ranges.merge_after.Goals as goal
 
 pub loop-i-init : goal.loop-i-init

@@ -1,9 +1,5 @@
-use borrow.Author.Rules.{rules}
 use Prim.Native.Nat.{◌-◌}
-use mathlib.Core.Path.{refl, ◌∙◌}
-use native.Mathlib.Omega.{arith}
-use Rattle.control.specs.Merging.{Within}
-use Rattle.control.proofs.ranges.MergingLaws.{Taking, taken_start, room, taken_more, taken-all, merge_none, merge-all}
+use Rattle.control.proofs.ranges.MergingLaws.{Taking}
 use Rattle.control.proofs.ranges.merge_after.Given as goal
 
 abbrev pub invariant-loop-i : goal.invariant-loop-i

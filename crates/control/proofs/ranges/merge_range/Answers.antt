@@ -1,9 +1,5 @@
-use borrow.Author.Rules.{rules}
-use Prim.Native.Nat.{◌-◌}
 use mathlib.Core.Path.{refl, sym, ◌∙◌}
-use native.Mathlib.Omega.{arith}
-use lib.ListN.{length-set}
-use Rattle.control.proofs.ranges.MergingLaws.{Sofar, sofar-start, done, stays, turns, joins}
+use Rattle.control.proofs.ranges.MergingLaws.{sofar-start, done, stays, turns, joins}
 use Rattle.control.proofs.ranges.merge_range.Goals as goal
 
 pub loop-i-init : goal.loop-i-init

@@ -1,9 +1,5 @@
-use borrow.Author.Rules.{rules}
 use Prim.Native.Nat.{◌-◌}
-use mathlib.Core.Path.{refl, sym, ◌∙◌}
-use native.Mathlib.Omega.{arith}
-use lib.ListN.{length-set}
-use Rattle.control.proofs.ranges.MergingLaws.{Sofar, sofar-start, done, stays, turns, joins}
+use Rattle.control.proofs.ranges.MergingLaws.{Sofar}
 use Rattle.control.proofs.ranges.merge_range.Given as goal
 
 abbrev pub invariant-loop-i : goal.invariant-loop-i

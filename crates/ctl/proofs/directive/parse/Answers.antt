@@ -1,11 +1,6 @@
-use Prim.Native.Nat.{ℕ}
-use borrow.Author.Rules.{rules}
-use mathlib.Core.Path.{◌≡◌, sym, ap, ◌∙◌}
+use mathlib.Core.Path.{sym, ap, ◌∙◌}
 use Rattle.reading.specs.Directive.{without_lists}
 use Rattle.ctl.proofs.directive.Values.{is-engine, is-removal, is-target, is-access, is-processor, is-other}
-use mathlib.Core.Bool.{false}
-use mathlib.Core.List.{List}
-use Rattle.reading.specs.Text.{ascii, same, fold}
 use Rattle.ctl.proofs.directive.parse.Goals as goal
 
 pub returns-then-folds_to : goal.returns-then-folds_to

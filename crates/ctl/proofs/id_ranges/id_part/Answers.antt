@@ -1,7 +1,4 @@
-use mathlib.Core.List.{List}
 use Rattle.reading.specs.Text.{id_part, number_of, one_id}
-use borrow.Author.Rules.{rules}
-use Prim.Native.Nat.{ℕ}
 use mathlib.Core.Path.{◌≡◌, sym, ap, ◌∙◌}
 use Rattle.ctl.proofs.id_ranges.Parts.{part-blank, part-around, part-single}
 use Rattle.ctl.proofs.id_ranges.id_part.Goals as goal

@@ -1,11 +1,9 @@
-use borrow.Author.Rules.{rules}
 use Prim.Native.Nat.{suc, ◌+◌, ◌-◌}
 use mathlib.Core.Path.{◌≡◌, sym, ap, ◌∙◌}
-use native.Mathlib.Omega.{arith}
 use native.Mathlib.Numerals.{add-one}
 use lib.ListN.{length, take, drop}
 use Rattle.reading.specs.Text.{trim, number_of}
-use Rattle.lists.proofs.Slices.{rest_eq, front_length}
+use Rattle.lists.proofs.Slices.{rest_eq}
 use Rattle.ctl.proofs.id_ranges.Parts.{around-first-bad, around-second-bad, around-above, around-range}
 use Rattle.ctl.proofs.id_ranges.ids_around.Goals as goal
 

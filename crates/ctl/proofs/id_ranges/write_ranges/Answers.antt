@@ -1,14 +1,7 @@
-use mathlib.Core.List.{List}
-use lib.ListN.{length}
-use Rattle.ctl.specs.WriteRanges.{Written}
-use borrow.Author.Rules.{rules}
-use Prim.Native.Nat.{ℕ, ◌+◌, ◌-◌, ◌≤◌, ◌<◌, min}
-use mathlib.Core.Path.{◌∙◌}
 use native.Mathlib.Omega.{arith}
-use Rattle.reading.specs.Directive.{start_of, end_of}
 use Rattle.lists.proofs.Slices.{front_length}
 use Rattle.text.proofs.ascii.Search.{index-le}
-use Rattle.ctl.proofs.id_ranges.Filling.{Done, done-start, written_last, starts_more, ends_more}
+use Rattle.ctl.proofs.id_ranges.Filling.{written_last, starts_more, ends_more}
 use Rattle.ctl.proofs.id_ranges.write_ranges.Goals as goal
 
 pub slice_bounds-id_part-end : goal.slice_bounds-id_part-end
@@ -22,13 +15,16 @@ returns-then-value-at c = (written_last (c.args.value.now) (c.args.starts.now) (
     c.loop-at.invariant.2 c.put_range-k.ensures) c.if-value-at.true
 
 pub loop-at-preserved : goal.loop-at-preserved
-loop-at-preserved c =
-    (omega arith, (starts_more (c.args.value.now) (c.args.starts.now) (c.args.ends.now) (c.loop-at.at) (c.find-comma.result) _ c.find-comma.ensures
-    c.id_part-part.ensures
-    _ _ _ _ c.loop-at.k _
-    c.loop-at.invariant.1
-    c.loop-at.invariant.2 c.put_range-k.ensures) c.if-value-at.false, (ends_more (c.args.value.now) (c.args.starts.now) (c.args.ends.now) (c.loop-at.at) (c.find-comma.result) _ c.find-comma.ensures
-    c.id_part-part.ensures
-    _ _ _ _ c.loop-at.k _
-    c.loop-at.invariant.1
-    c.loop-at.invariant.2 c.put_range-k.ensures) c.if-value-at.false)
+loop-at-preserved c = (
+  omega arith,
+  (starts_more (c.args.value.now) (c.args.starts.now) (c.args.ends.now) (c.loop-at.at) (c.find-comma.result) _ c.find-comma.ensures
+      c.id_part-part.ensures
+      _ _ _ _ c.loop-at.k _
+      c.loop-at.invariant.1
+      c.loop-at.invariant.2 c.put_range-k.ensures) c.if-value-at.false,
+  (ends_more (c.args.value.now) (c.args.starts.now) (c.args.ends.now) (c.loop-at.at) (c.find-comma.result) _ c.find-comma.ensures
+      c.id_part-part.ensures
+      _ _ _ _ c.loop-at.k _
+      c.loop-at.invariant.1
+      c.loop-at.invariant.2 c.put_range-k.ensures) c.if-value-at.false,
+)

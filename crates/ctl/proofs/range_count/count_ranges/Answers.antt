@@ -1,18 +1,14 @@
-use borrow.Author.Rules.{rules}
-use Prim.Native.Nat.{ℕ, suc, ◌+◌, ◌-◌, ◌≤◌, ◌<◌}
+use Prim.Native.Nat.{ℕ, suc, ◌+◌, ◌≤◌}
 use mathlib.Core.Path.{◌≡◌, sym, ◌∙◌}
-use mathlib.Core.List.{List}
 use native.Mathlib.Omega.{arith}
 use native.Mathlib.Numerals.{add-one}
-use lib.ListN.{length, drop, get_or}
+use lib.ListN.{drop}
 use Rattle.reading.specs.Directive.{removal_value}
-use Rattle.ctl.specs.declared.range_count.PartState.{PartState}
 use Rattle.ctl.specs.declared.range_count.Step.{Step}
 use Rattle.ctl.specs.declared.range_count.PartEnd.{PartEnd}
-use Rattle.ctl.specs.declared.range_count.RangeCount.{RangeCount}
 use Rattle.ctl.specs.CountRanges.{count_of, count_in}
 use Rattle.ctl.specs.Scan.{part_start}
-use Rattle.ctl.proofs.range_count.Bytes.{digit-byte, few}
+use Rattle.ctl.proofs.range_count.Bytes.{few}
 use Rattle.ctl.proofs.range_count.Passing.{after_part, after_step, scan, pass-counts, turn-digit, turn-other, turn-comma, turn_end}
 use Rattle.ctl.proofs.range_count.Commas.{passed-inside, passed-counts}
 use Rattle.ctl.proofs.range_count.count_ranges.Goals as goal
@@ -38,8 +34,12 @@ loop-i-preserved-then-k-eq0 c =
 
 pub loop-i-preserved-else-k-eq0 : goal.loop-i-preserved-else-k-eq0
 loop-i-preserved-else-k-eq0 c =
-    simp (add-one, c.part_start-seen-then-b-eq44.ensures) (omega arith, omega (arith, (let fact : c.in-Counts.k ≤ 1 = few (c.loop-i.seen) c.in-Counts.k (sym c.part_end.ensures ∙ c.in-Counts.is) in fact)), ((let fact : (count_in (removal_value (c.args.value.now)) ≡ after_part ((λ (n : ℕ). scan (drop (suc c.loop-i.i) c.args.value.now) part_start n)) (c.loop-i.n) (PartEnd.Counts c.in-Counts.k)) = c.loop-i.invariant.2 ∙ turn-comma (c.args.value.now) (c.loop-i.seen) (c.loop-i.n) (c.loop-i.i) (c.loop-i-test.true) (PartEnd.Counts c.in-Counts.k) c.if-b-eq44.true
-    (sym c.part_end.ensures ∙ c.in-Counts.is) in fact)))
+    simp (add-one, c.part_start-seen-then-b-eq44.ensures) (
+      omega arith,
+      omega (arith, (let fact : c.in-Counts.k ≤ 1 = few (c.loop-i.seen) c.in-Counts.k (sym c.part_end.ensures ∙ c.in-Counts.is) in fact)),
+      ((let fact : (count_in (removal_value (c.args.value.now)) ≡ after_part ((λ (n : ℕ). scan (drop (suc c.loop-i.i) c.args.value.now) part_start n)) (c.loop-i.n) (PartEnd.Counts c.in-Counts.k)) = c.loop-i.invariant.2 ∙ turn-comma (c.args.value.now) (c.loop-i.seen) (c.loop-i.n) (c.loop-i.i) (c.loop-i-test.true) (PartEnd.Counts c.in-Counts.k) c.if-b-eq44.true
+          (sym c.part_end.ensures ∙ c.in-Counts.is) in fact)),
+    )
 
 pub returns-in_default-on_digit : goal.returns-in_default-on_digit
 returns-in_default-on_digit c = sym ((let fact : (count_in (removal_value (c.args.value.now)) ≡ after_step (λ q. (scan (drop (suc c.loop-i.i) c.args.value.now) q (c.loop-i.n))) Step.Bad) = c.loop-i.invariant.2 ∙ turn-digit (c.args.value.now) (c.loop-i.seen) (c.loop-i.n) (c.loop-i.i) (c.loop-i-test.true) Step.Bad c.if-b-eq44.false

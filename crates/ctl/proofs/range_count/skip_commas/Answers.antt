@@ -1,9 +1,5 @@
-use Prim.Native.Nat.{◌+◌, ◌-◌}
-use mathlib.Core.Path.{◌≡◌, refl, sym, ◌∙◌}
-use native.Mathlib.Omega.{arith}
+use mathlib.Core.Path.{sym, ◌∙◌}
 use native.Mathlib.Numerals.{add-one}
-use lib.ListN.{length, drop}
-use Rattle.ctl.specs.Scan.{leading_commas}
 use Rattle.ctl.proofs.range_count.Commas.{commas-more, commas-other, commas-end}
 use Rattle.ctl.proofs.range_count.skip_commas.Goals as goal
 

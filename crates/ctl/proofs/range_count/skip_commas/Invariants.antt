@@ -1,10 +1,7 @@
 use Prim.Native.Nat.{◌+◌, ◌-◌}
-use mathlib.Core.Path.{◌≡◌, refl, sym, ◌∙◌}
-use native.Mathlib.Omega.{arith}
-use native.Mathlib.Numerals.{add-one}
+use mathlib.Core.Path.{◌≡◌}
 use lib.ListN.{length, drop}
 use Rattle.ctl.specs.Scan.{leading_commas}
-use Rattle.ctl.proofs.range_count.Commas.{commas-more, commas-other, commas-end}
 use Rattle.ctl.proofs.range_count.skip_commas.Given as goal
 
 abbrev pub invariant-loop-i : goal.invariant-loop-i

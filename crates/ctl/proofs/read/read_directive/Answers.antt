@@ -1,16 +1,12 @@
-use borrow.Author.Rules.{rules}
-use Prim.Native.Nat.{ℕ, min}
+use Prim.Native.Nat.{min}
 use mathlib.Core.Path.{◌≡◌, refl, sym, ap, ◌∙◌}
 use native.Mathlib.Omega.{arith}
 use lib.ListN.{length}
-use Rattle.reading.specs.Directive.{directive_of, ranges_of, start_of, end_of, reader_answer, reader_outcome}
+use Rattle.reading.specs.Directive.{directive_of, ranges_of, start_of, end_of}
 use Rattle.ctl.specs.declared.read.ReadAnswer.{ReadAnswer}
-use Rattle.ctl.specs.ReadDirective.{ranges_counted, refused_outcome, outcome_found}
-use lib.Dec.{eqb}
-use Rattle.ctl.proofs.read.Reading.{TextsPass, counted, refusal-answer, accepted, name-long, value-long, name-high, value-high}
+use Rattle.ctl.specs.ReadDirective.{ranges_counted, outcome_found}
+use Rattle.ctl.proofs.read.Reading.{counted, refusal-answer, accepted, name-long, value-long, name-high, value-high}
 use Rattle.ctl.proofs.read.Reading.{too_short, fits, unwritten, starts-written, ends-written}
-use mathlib.Core.Bool.{false}
-use mathlib.Core.List.{List}
 use Rattle.ctl.proofs.read.read_directive.Goals as goal
 
 pub returns-then-name-gt-TEXT_BYTES : goal.returns-then-name-gt-TEXT_BYTES
@@ -47,11 +43,11 @@ returns-then-starts-n c =
     ∙ counted ((c.args.value.now)) (directive_of ((c.args.name.now)) ((c.args.value.now))))) in
     (ap (λ (r' : ReadAnswer). outcome_found r' (c.args.starts.now) (c.args.ends.now)) c.refusal_answer-then-starts-n.ensures
     ∙ refusal-answer (c.args.name.now) (c.args.value.now) (c.args.starts.now) (c.args.ends.now) 7 (too_short (c.args.name.now) (c.args.value.now) ((min (length (c.args.starts.now)) (length (c.args.ends.now)))) ((record {
-  name-short = c.if-name-gt-TEXT_BYTES.false;
-  value-short = c.if-value-gt-TEXT_BYTES.false;
-  name-low = sym c.has_high_byte.ensures ∙ c.if-has_high_byte.false;
-  value_low = sym c.has_high_byte-2.ensures ∙ c.if-has_high_byte-2.false;
-})) (omega arith)) refl)
+      name-short = c.if-name-gt-TEXT_BYTES.false;
+      value-short = c.if-value-gt-TEXT_BYTES.false;
+      name-low = sym c.has_high_byte.ensures ∙ c.if-has_high_byte.false;
+      value_low = sym c.has_high_byte-2.ensures ∙ c.if-has_high_byte-2.false;
+    })) (omega arith)) refl)
 
 pub returns-then-ends-n : goal.returns-then-ends-n
 returns-then-ends-n c =
@@ -60,11 +56,11 @@ returns-then-ends-n c =
     ∙ counted ((c.args.value.now)) (directive_of ((c.args.name.now)) ((c.args.value.now))))) in
     (ap (λ (r' : ReadAnswer). outcome_found r' (c.args.starts.now) (c.args.ends.now)) c.refusal_answer-then-ends-n.ensures
     ∙ refusal-answer (c.args.name.now) (c.args.value.now) (c.args.starts.now) (c.args.ends.now) 7 (too_short (c.args.name.now) (c.args.value.now) ((min (length (c.args.starts.now)) (length (c.args.ends.now)))) ((record {
-  name-short = c.if-name-gt-TEXT_BYTES.false;
-  value-short = c.if-value-gt-TEXT_BYTES.false;
-  name-low = sym c.has_high_byte.ensures ∙ c.if-has_high_byte.false;
-  value_low = sym c.has_high_byte-2.ensures ∙ c.if-has_high_byte-2.false;
-})) (omega arith)) refl)
+      name-short = c.if-name-gt-TEXT_BYTES.false;
+      value-short = c.if-value-gt-TEXT_BYTES.false;
+      name-low = sym c.has_high_byte.ensures ∙ c.if-has_high_byte.false;
+      value_low = sym c.has_high_byte-2.ensures ∙ c.if-has_high_byte-2.false;
+    })) (omega arith)) refl)
 
 pub returns-then-n-eq0 : goal.returns-then-n-eq0
 returns-then-n-eq0 c =
@@ -73,11 +69,11 @@ returns-then-n-eq0 c =
     ∙ counted ((c.args.value.now)) (directive_of ((c.args.name.now)) ((c.args.value.now))))) in
     let z : (length (ranges_of (directive_of (c.args.name.now) (c.args.value.now)))) ≡ 0 = sym e ∙ c.if-n-eq0.true in
     let a = fits (c.args.name.now) (c.args.value.now) ((min (length (c.args.starts.now)) (length (c.args.ends.now)))) ((record {
-  name-short = c.if-name-gt-TEXT_BYTES.false;
-  value-short = c.if-value-gt-TEXT_BYTES.false;
-  name-low = sym c.has_high_byte.ensures ∙ c.if-has_high_byte.false;
-  value_low = sym c.has_high_byte-2.ensures ∙ c.if-has_high_byte-2.false;
-})) (omega arith) in
+      name-short = c.if-name-gt-TEXT_BYTES.false;
+      value-short = c.if-value-gt-TEXT_BYTES.false;
+      name-low = sym c.has_high_byte.ensures ∙ c.if-has_high_byte.false;
+      value_low = sym c.has_high_byte-2.ensures ∙ c.if-has_high_byte-2.false;
+    })) (omega arith) in
     accepted (c.args.name.now) (c.args.value.now) (c.args.starts.now) (c.args.ends.now) _ _ _ a c.parse-directive.ensures
     (unwritten (c.args.name.now) (c.args.value.now) start_of (c.args.starts.now) z) (unwritten (c.args.name.now) (c.args.value.now) end_of (c.args.ends.now) z)
 
@@ -90,11 +86,11 @@ returns c =
     let w = c.write_ranges.ensures in
     let t = c.trim.ensures in
     let a = fits (c.args.name.now) (c.args.value.now) ((min (length (c.args.starts.now)) (length (c.args.ends.now)))) ((record {
-  name-short = c.if-name-gt-TEXT_BYTES.false;
-  value-short = c.if-value-gt-TEXT_BYTES.false;
-  name-low = sym c.has_high_byte.ensures ∙ c.if-has_high_byte.false;
-  value_low = sym c.has_high_byte-2.ensures ∙ c.if-has_high_byte-2.false;
-})) (omega arith) in
+      name-short = c.if-name-gt-TEXT_BYTES.false;
+      value-short = c.if-value-gt-TEXT_BYTES.false;
+      name-low = sym c.has_high_byte.ensures ∙ c.if-has_high_byte.false;
+      value_low = sym c.has_high_byte-2.ensures ∙ c.if-has_high_byte-2.false;
+    })) (omega arith) in
     accepted (c.args.name.now) (c.args.value.now) (c.args.starts.now) (c.args.ends.now) _ _ _ a c.parse-directive.ensures
     (starts-written (c.args.name.now) (c.args.value.now) (c.args.starts.now) (c.args.ends.now) _ _ _ t n (omega arith) w)
     (ends-written (c.args.name.now) (c.args.value.now) (c.args.starts.now) (c.args.ends.now) _ _ _ t n (omega arith) w)

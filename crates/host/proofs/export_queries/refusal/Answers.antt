@@ -1,4 +1,3 @@
-use borrow.Author.Rules.{rules}
 use Rattle.host.proofs.export_queries.Answers.{says-3, says-5, says-0}
 use Rattle.host.proofs.export_queries.refusal.Goals as goal
 

@@ -7,7 +7,6 @@ use Rattle.control.specs.ControlsStruct.{controls_of}
 use Rattle.control.specs.QueryAnswers.{Answered}
 use Rattle.host.proofs.export_queries.Answers.{refuses, gives}
 use Rattle.host.specs.HostQueries.{controls_in, host_mode}
-use borrow.Author.Rules.{rules}
 use Rattle.host.proofs.export_queries.tivembo_engine_mode.Goals as goal
 
 pub returns-then-ruleset_mode-gt2 : goal.returns-then-ruleset_mode-gt2

@@ -6,7 +6,6 @@ use Rattle.abi.specs.HostValues.{number_of, flag_number}
 use Rattle.control.specs.ControlsStruct.{controls_of}
 use Rattle.host.proofs.export_queries.Answers.{told, refuses, gives}
 use Rattle.host.specs.HostQueries.{controls_in, host_removed}
-use borrow.Author.Rules.{rules}
 use Rattle.host.proofs.export_queries.tivembo_is_rule_removed.Goals as goal
 
 pub returns-then-n-ne0 : goal.returns-then-n-ne0

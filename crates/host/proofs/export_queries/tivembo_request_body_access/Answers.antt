@@ -4,7 +4,6 @@ use Rattle.reading.specs.Controls.{ask_access}
 use Rattle.control.specs.ControlsStruct.{controls_of}
 use Rattle.host.proofs.export_queries.Answers.{refuses, gives}
 use Rattle.host.specs.HostQueries.{controls_in, host_access}
-use borrow.Author.Rules.{rules}
 use Rattle.host.proofs.export_queries.tivembo_request_body_access.Goals as goal
 
 pub returns-then-n-ne0 : goal.returns-then-n-ne0

@@ -4,7 +4,6 @@ use Rattle.reading.specs.Controls.{ask_processor}
 use Rattle.control.specs.ControlsStruct.{controls_of}
 use Rattle.host.proofs.export_queries.Answers.{refuses, gives}
 use Rattle.host.specs.HostQueries.{controls_in, host_processor}
-use borrow.Author.Rules.{rules}
 use Rattle.host.proofs.export_queries.tivembo_request_body_processor.Goals as goal
 
 pub returns-then-n-ne0 : goal.returns-then-n-ne0

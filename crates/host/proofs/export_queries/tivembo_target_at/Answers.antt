@@ -1,5 +1,4 @@
 use Rattle.host.proofs.export_queries.Answers.{no_target, target}
-use borrow.Author.Rules.{rules}
 use Rattle.host.proofs.export_queries.tivembo_target_at.Goals as goal
 
 pub returns-then-n-ne0 : goal.returns-then-n-ne0

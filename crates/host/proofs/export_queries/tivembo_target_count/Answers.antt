@@ -3,7 +3,6 @@ use Rattle.reading.specs.Controls.{ask_target_count}
 use Rattle.control.specs.ControlsStruct.{controls_of}
 use Rattle.host.proofs.export_queries.Answers.{refuses, gives}
 use Rattle.host.specs.HostQueries.{controls_in, host_target_count}
-use borrow.Author.Rules.{rules}
 use Rattle.host.proofs.export_queries.tivembo_target_count.Goals as goal
 
 pub returns-then-n-ne0 : goal.returns-then-n-ne0

@@ -1,7 +1,6 @@
 use Rattle.reading.specs.Controls.{add_range_answer, with_range}
 use mathlib.Core.Bool.{true}
-use Rattle.host.proofs.export_updates.Additions.{turned, not-added, added}
-use borrow.Author.Rules.{rules}
+use Rattle.host.proofs.export_updates.Additions.{added}
 use Rattle.host.proofs.export_updates.tivembo_remove_range.Goals as goal
 
 pub returns : goal.returns

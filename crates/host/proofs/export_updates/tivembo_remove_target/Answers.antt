@@ -1,7 +1,6 @@
 use Rattle.reading.specs.Controls.{add_target_answer, with_target}
 use mathlib.Core.Bool.{false}
-use Rattle.host.proofs.export_updates.Additions.{turned, not-added, added}
-use borrow.Author.Rules.{rules}
+use Rattle.host.proofs.export_updates.Additions.{added}
 use Rattle.host.proofs.export_updates.tivembo_remove_target.Goals as goal
 
 pub returns : goal.returns

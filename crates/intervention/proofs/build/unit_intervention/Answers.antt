@@ -1,6 +1,5 @@
 use Rattle.reading.specs.Records.{journal_list, matched_in}
 use Rattle.intervention.proofs.build.UnitLaws.{unit-is}
-use borrow.Author.Rules.{rules}
 use Rattle.intervention.proofs.build.unit_intervention.Goals as goal
 
 pub returns : goal.returns

@@ -1,10 +1,8 @@
 use mathlib.Core.Path.{◌≡◌}
 use mathlib.Core.Bool.{cond}
-use Rattle.reading.specs.Call.{Call}
 use Rattle.reading.specs.Refusals.{refused3, refused4}
-use Rattle.refusals.specs.FirstRefusal.{Counted, first_of_four}
+use Rattle.refusals.specs.FirstRefusal.{first_of_four}
 use Rattle.refusals.proofs.first.LentLaws.{says-1, says-2, says-3, differ, agree}
-use borrow.Author.Rules.{rules}
 use Rattle.refusals.proofs.first.early_refusal.Goals as goal
 
 pub returns-then-is_unknown : goal.returns-then-is_unknown

@@ -2,9 +2,9 @@ use mathlib.Core.Path.{◌≡◌, sym, ◌∙◌}
 use Prim.Native.Nat.{ℕ}
 use mathlib.Core.List.{List}
 use Rattle.reading.specs.declared.CallSettings.{CallSettings}
-use Rattle.reading.specs.Call.{Call, Transaction, Lists}
+use Rattle.reading.specs.Call.{Transaction, Lists}
 use Rattle.refusals.specs.FirstRefusal.{first_of_seven}
-use Rattle.refusals.proofs.first.LentLaws.{first_from5, first_from6, first_from7}
+use Rattle.refusals.proofs.first.LentLaws.{first_from5}
 use Rattle.refusals.proofs.first.LentLaws.{Lent, call_on, counted, four-first, past-four, says-5, says-6, says-7}
 use Rattle.refusals.proofs.first.first_refusal.Goals as goal
 
@@ -51,8 +51,12 @@ returns-then-has_no_room c t lists l free =
     let x = lent a.call a.rules.now a.actions.now a.markers.now a.text.now a.outcomes.now t lists in
     let from-5 : first_of_seven (call_on x) ≡ first_from5 (call_on x)
     = past-four (call_on x) (sym (c.early_refusal-early.ensures (call_on x) (counted x l)) ∙ c.if-early-ne0.false) in
-    rw (from-5, says-5 x l c.has_bad_record.ensures c.if-has_bad_record.false, says-6 x l c.has_high_byte.ensures c.if-has_high_byte.false,
-    says-7 x l free c.has_no_room.ensures c.if-has_no_room.true)
+    rw (
+      from-5,
+      says-5 x l c.has_bad_record.ensures c.if-has_bad_record.false,
+      says-6 x l c.has_high_byte.ensures c.if-has_high_byte.false,
+      says-7 x l free c.has_no_room.ensures c.if-has_no_room.true,
+    )
 
 pub returns : goal.returns
 returns c t lists l free =
@@ -60,5 +64,9 @@ returns c t lists l free =
     let x = lent a.call a.rules.now a.actions.now a.markers.now a.text.now a.outcomes.now t lists in
     let from-5 : first_of_seven (call_on x) ≡ first_from5 (call_on x)
     = past-four (call_on x) (sym (c.early_refusal-early.ensures (call_on x) (counted x l)) ∙ c.if-early-ne0.false) in
-    rw (from-5, says-5 x l c.has_bad_record.ensures c.if-has_bad_record.false, says-6 x l c.has_high_byte.ensures c.if-has_high_byte.false,
-    says-7 x l free c.has_no_room.ensures c.if-has_no_room.false)
+    rw (
+      from-5,
+      says-5 x l c.has_bad_record.ensures c.if-has_bad_record.false,
+      says-6 x l c.has_high_byte.ensures c.if-has_high_byte.false,
+      says-7 x l free c.has_no_room.ensures c.if-has_no_room.false,
+    )

@@ -1,9 +1,7 @@
-use borrow.Author.Rules.{rules}
-use Prim.Native.Nat.{◌-◌, ◌≤◌, ◌<◌}
-use mathlib.Core.Path.{◌≡◌, refl, sym, ◌∙◌}
+use Prim.Native.Nat.{◌≤◌, ◌<◌}
+use mathlib.Core.Path.{sym, ◌∙◌}
 use native.Mathlib.Omega.{arith}
-use lib.ListN.{length, drop}
-use Rattle.reading.specs.Lists.{any}
+use lib.ListN.{length}
 use Rattle.reading.specs.Records.{marker_from, marker_list}
 use Rattle.reading.specs.Refusals.{bad_marker}
 use Rattle.lists.proofs.RecordLaws.{length-markers, marker-is}

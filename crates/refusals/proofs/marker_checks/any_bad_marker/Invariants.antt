@@ -1,13 +1,9 @@
-use borrow.Author.Rules.{rules}
-use Prim.Native.Nat.{◌-◌, ◌≤◌, ◌<◌}
-use mathlib.Core.Path.{◌≡◌, refl, sym, ◌∙◌}
-use native.Mathlib.Omega.{arith}
-use lib.ListN.{length, drop}
+use Prim.Native.Nat.{◌-◌, ◌≤◌}
+use mathlib.Core.Path.{◌≡◌}
+use lib.ListN.{drop}
 use Rattle.reading.specs.Lists.{any}
-use Rattle.reading.specs.Records.{marker_from, marker_list}
+use Rattle.reading.specs.Records.{marker_list}
 use Rattle.reading.specs.Refusals.{bad_marker}
-use Rattle.lists.proofs.RecordLaws.{length-markers, marker-is}
-use Rattle.refusals.proofs.rule_checks.AnyLaws.{any_found, any-passed, any-end}
 use Rattle.refusals.proofs.marker_checks.any_bad_marker.Given as goal
 
 abbrev pub invariant-loop-i : goal.invariant-loop-i

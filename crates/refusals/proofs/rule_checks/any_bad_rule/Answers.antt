@@ -1,14 +1,11 @@
-use borrow.Author.Rules.{rules}
-use Prim.Native.Nat.{◌-◌, ◌≤◌, ◌<◌}
-use mathlib.Core.Path.{◌≡◌, refl, sym, ◌∙◌}
+use Prim.Native.Nat.{◌≤◌}
+use mathlib.Core.Path.{sym, ◌∙◌}
 use native.Mathlib.Omega.{arith}
-use lib.ListN.{length, drop}
-use Rattle.reading.specs.Lists.{any}
+use lib.ListN.{length}
 use Rattle.reading.specs.Records.{rule_list}
-use Rattle.reading.specs.Call.{no_rule}
 use Rattle.reading.specs.Refusals.{bad_rule}
 use Rattle.lists.proofs.RecordLaws.{length-rules}
-use Rattle.refusals.proofs.rule_checks.AnyLaws.{any_found, any-passed, any-end}
+use Rattle.refusals.proofs.rule_checks.AnyLaws.{any-end}
 use Rattle.refusals.proofs.rule_checks.any_bad_rule.Goals as goal
 
 pub returns : goal.returns

@@ -1,8 +1,7 @@
-use borrow.Author.Rules.{rules}
 use mathlib.Core.Path.{sym, ◌∙◌}
 use native.Mathlib.Omega.{arith}
 use Rattle.refusals.specs.Totals.{weight_by}
-use Rattle.refusals.proofs.totals.Exceeding.{none-adds, over-held}
+use Rattle.refusals.proofs.totals.Exceeding.{none-adds}
 use Rattle.refusals.proofs.totals.Following.{follow-fits}
 use Rattle.refusals.proofs.totals.exceeds.Goals as goal
 

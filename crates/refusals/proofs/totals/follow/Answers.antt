@@ -1,8 +1,5 @@
-use borrow.Author.Rules.{rules}
-use Prim.Native.Nat.{◌-◌, ◌/◌}
 use native.Mathlib.Omega.{arith}
-use lib.ListN.{length}
-use Rattle.refusals.proofs.totals.Following.{Follows, follows-none, follows-not, follows-more, follows-end}
+use Rattle.refusals.proofs.totals.Following.{follows-not, follows-more, follows-end}
 use Rattle.refusals.proofs.totals.follow.Goals as goal
 
 pub returns-then-first-end : goal.returns-then-first-end

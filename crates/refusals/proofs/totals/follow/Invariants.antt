@@ -1,8 +1,6 @@
-use borrow.Author.Rules.{rules}
 use Prim.Native.Nat.{◌-◌, ◌/◌}
-use native.Mathlib.Omega.{arith}
 use lib.ListN.{length}
-use Rattle.refusals.proofs.totals.Following.{Follows, follows-none, follows-not, follows-more, follows-end}
+use Rattle.refusals.proofs.totals.Following.{Follows}
 use Rattle.refusals.proofs.totals.follow.Given as goal
 
 abbrev pub invariant-loop-i : goal.invariant-loop-i

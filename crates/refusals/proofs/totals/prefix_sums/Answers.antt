@@ -1,11 +1,6 @@
-use borrow.Author.Rules.{rules}
-use Prim.Native.Nat.{◌-◌, ◌<◌}
-use mathlib.Core.Path.{◌∙◌}
 use native.Mathlib.Omega.{arith}
-use lib.ListN.{length, set, length-set}
-use lib.Seq.{get_or-set_same, lt-length-set}
-use Rattle.refusals.specs.Totals.{weight_by}
-use Rattle.refusals.proofs.totals.Summing.{Sofar, sofar-none, sofar-more, sofar-end}
+use lib.Seq.{lt-length-set}
+use Rattle.refusals.proofs.totals.Summing.{sofar-more}
 use Rattle.refusals.proofs.totals.prefix_sums.Goals as goal
 
 pub loop-i-preserved : goal.loop-i-preserved

@@ -1,9 +1,6 @@
-use borrow.Author.Rules.{rules}
-use Prim.Native.Nat.{◌-◌}
 use mathlib.Core.Path.{◌∙◌}
 use native.Mathlib.Omega.{arith}
-use Rattle.refusals.specs.Totals.{weight_by}
-use Rattle.refusals.proofs.totals.Exceeding.{Whole, whole-none, whole-more, whole-end}
+use Rattle.refusals.proofs.totals.Exceeding.{whole-more, whole-end}
 use Rattle.refusals.proofs.totals.whole_weight.Goals as goal
 
 pub loop-i-preserved : goal.loop-i-preserved

@@ -1,9 +1,6 @@
-use borrow.Author.Rules.{rules}
-use Prim.Native.Nat.{◌-◌, ◌≤◌}
-use mathlib.Core.Path.{◌≡◌, refl, sym, ◌∙◌}
+use mathlib.Core.Path.{sym, ◌∙◌}
 use native.Mathlib.Omega.{arith}
-use lib.ListN.{length}
-use Rattle.report.proofs.unsupported.RuleLaws.{first_from, all_codes, code-found, code-passed, codes-past, reason-small}
+use Rattle.report.proofs.unsupported.RuleLaws.{all_codes, code-found, code-passed, codes-past}
 use Rattle.report.proofs.unsupported.first_of_rule.Goals as goal
 
 pub returns-then-is_reason : goal.returns-then-is_reason

@@ -1,9 +1,6 @@
-use borrow.Author.Rules.{rules}
 use Prim.Native.Nat.{◌-◌, ◌≤◌}
-use mathlib.Core.Path.{◌≡◌, refl, sym, ◌∙◌}
-use native.Mathlib.Omega.{arith}
-use lib.ListN.{length}
-use Rattle.report.proofs.unsupported.RuleLaws.{first_from, all_codes, code-found, code-passed, codes-past, reason-small}
+use mathlib.Core.Path.{◌≡◌}
+use Rattle.report.proofs.unsupported.RuleLaws.{first_from}
 use Rattle.report.proofs.unsupported.first_of_rule.Given as goal
 
 abbrev pub invariant-loop-i : goal.invariant-loop-i

@@ -1,13 +1,5 @@
-use borrow.Author.Rules.{rules}
-use Prim.Native.Nat.{ℕ, ◌/◌, ◌-◌, ◌≤◌}
-use mathlib.Core.Path.{◌≡◌, sym, ◌∙◌}
-use mathlib.Core.List.{List}
-use mathlib.Core.Logic.{⊎_elim}
-use native.Mathlib.Omega.{arith}
-use lib.ListN.{length}
-use Rattle.reading.specs.declared.Rule.{Rule}
-use Rattle.reading.specs.Records.{rule_list}
-use Rattle.report.proofs.unsupported.UnitLaws.{Held, held_none, held_all, held-broken, held_kept, held-waits, told, held-silent}
+use mathlib.Core.Path.{◌∙◌}
+use Rattle.report.proofs.unsupported.UnitLaws.{held_none, held_all, held-broken, held_kept, held-waits, told, held-silent}
 use Rattle.report.proofs.unsupported.first_unsupported.Goals as goal
 
 pub loop-k-init : goal.loop-k-init

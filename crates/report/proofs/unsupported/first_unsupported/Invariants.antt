@@ -1,13 +1,7 @@
-use borrow.Author.Rules.{rules}
-use Prim.Native.Nat.{ℕ, ◌/◌, ◌-◌, ◌≤◌}
-use mathlib.Core.Path.{◌≡◌, sym, ◌∙◌}
-use mathlib.Core.List.{List}
-use mathlib.Core.Logic.{⊎_elim}
-use native.Mathlib.Omega.{arith}
+use Prim.Native.Nat.{◌/◌, ◌-◌}
 use lib.ListN.{length}
-use Rattle.reading.specs.declared.Rule.{Rule}
 use Rattle.reading.specs.Records.{rule_list}
-use Rattle.report.proofs.unsupported.UnitLaws.{Held, held_none, held_all, held-broken, held_kept, held-waits, told, held-silent}
+use Rattle.report.proofs.unsupported.UnitLaws.{Held}
 use Rattle.report.proofs.unsupported.first_unsupported.Given as goal
 
 abbrev pub invariant-loop-k : goal.invariant-loop-k

@@ -1,11 +1,9 @@
-use Prim.Native.Nat.{ℕ, ◌+◌, ◌*◌, ◌/◌, ◌-◌, ◌^◌, ◌≤◌, ◌<◌}
+use Prim.Native.Nat.{◌+◌, ◌*◌, ◌/◌, ◌-◌, ◌^◌, ◌<◌}
 use mathlib.Core.Path.{◌≡◌, ◌∙◌}
-use mathlib.Core.List.{List}
 use native.Mathlib.Omega.{arith}
 use lib.ListN.{length, get_or}
 use Rattle.reading.specs.Report.{report_with}
-use Rattle.report.proofs.verdicts.CountLaws.{Counted, counted_none, counted-more, counted-hit, counted-other, counted-all, counted-fits, one_at_most}
-use borrow.Author.Rules.{rules}
+use Rattle.report.proofs.verdicts.CountLaws.{counted-more, counted-hit, counted-other, counted-all, counted-fits, one_at_most}
 use Rattle.report.proofs.verdicts.count_verdicts.Goals as goal
 
 pub loop-k-preserved-then-verdict-eq0 : goal.loop-k-preserved-then-verdict-eq0

@@ -1,11 +1,6 @@
-use Prim.Native.Nat.{ℕ, ◌+◌, ◌*◌, ◌/◌, ◌-◌, ◌^◌, ◌≤◌, ◌<◌}
-use mathlib.Core.Path.{◌≡◌, ◌∙◌}
-use mathlib.Core.List.{List}
-use native.Mathlib.Omega.{arith}
-use lib.ListN.{length, get_or}
-use Rattle.reading.specs.Report.{report_with}
-use Rattle.report.proofs.verdicts.CountLaws.{Counted, counted_none, counted-more, counted-hit, counted-other, counted-all, counted-fits, one_at_most}
-use borrow.Author.Rules.{rules}
+use Prim.Native.Nat.{◌/◌, ◌-◌, ◌≤◌}
+use lib.ListN.{length}
+use Rattle.report.proofs.verdicts.CountLaws.{Counted}
 use Rattle.report.proofs.verdicts.count_verdicts.Given as goal
 
 -- of the k entries before the next, those that are not others were missed

@@ -1,15 +1,9 @@
-use borrow.Author.Rules.{rules}
-use Prim.Native.Nat.{◌-◌, ◌/◌, ◌≤◌}
-use mathlib.Core.Path.{◌≡◌, refl, sym, ◌∙◌}
+use mathlib.Core.Path.{sym, ◌∙◌}
 use native.Mathlib.Omega.{arith}
 use native.Mathlib.Numerals.{add-one}
-use lib.ListN.{length, drop}
-use Rattle.reading.specs.Text.{same}
-use Rattle.reading.specs.Records.{marker_list}
-use Rattle.reading.specs.Markers.{marker_position}
 use Rattle.text.proofs.ascii.Spelling.{same-lengths}
 use Rattle.ruleset.proofs.markers.MarkerLaws.{same_byte, other_byte, same_end}
-use Rattle.ruleset.proofs.markers.MarkerLaws.{position_in, position-all, position-none, position-other, position-found}
+use Rattle.ruleset.proofs.markers.MarkerLaws.{position-all, position-none, position-other, position-found}
 use Rattle.ruleset.proofs.markers.marker_named.Goals as goal
 
 pub search-init : goal.search-init
@@ -36,8 +30,7 @@ name-preserved c =
 
 pub search-preserved : goal.search-preserved
 search-preserved c =
-    let other = c.part_of-other in
-    (
+    let other = c.part_of-other in (
       omega arith,
       c.search.invariant.1
           ∙ position-other _ _ _ c.search.k (omega arith) (omega arith) _ other.ensures (same-lengths _ _ c.if-other-n.false),

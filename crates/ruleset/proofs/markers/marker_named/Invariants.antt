@@ -1,15 +1,10 @@
-use borrow.Author.Rules.{rules}
 use Prim.Native.Nat.{◌-◌, ◌/◌, ◌≤◌}
-use mathlib.Core.Path.{◌≡◌, refl, sym, ◌∙◌}
-use native.Mathlib.Omega.{arith}
-use native.Mathlib.Numerals.{add-one}
+use mathlib.Core.Path.{◌≡◌}
 use lib.ListN.{length, drop}
 use Rattle.reading.specs.Text.{same}
 use Rattle.reading.specs.Records.{marker_list}
 use Rattle.reading.specs.Markers.{marker_position}
-use Rattle.text.proofs.ascii.Spelling.{same-lengths}
-use Rattle.ruleset.proofs.markers.MarkerLaws.{same_byte, other_byte, same_end}
-use Rattle.ruleset.proofs.markers.MarkerLaws.{position_in, position-all, position-none, position-other, position-found}
+use Rattle.ruleset.proofs.markers.MarkerLaws.{position_in}
 use Rattle.ruleset.proofs.markers.marker_named.Given as goal
 
 abbrev pub invariant-name : goal.invariant-name

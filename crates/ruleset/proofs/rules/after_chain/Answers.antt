@@ -1,9 +1,5 @@
-use Prim.Native.Nat.{◌+◌, ◌-◌}
-use mathlib.Core.Path.{◌≡◌, refl, sym, ◌∙◌}
+use mathlib.Core.Path.{sym, ◌∙◌}
 use native.Mathlib.Omega.{arith}
-use lib.ListN.{drop}
-use Rattle.reading.specs.Records.{rule_list}
-use Rattle.reading.specs.Walk.{chain_rest}
 use Rattle.ruleset.proofs.rules.ChainLaws.{chain-on, chain-closed, chain-end}
 use Rattle.ruleset.proofs.rules.after_chain.Goals as goal
 

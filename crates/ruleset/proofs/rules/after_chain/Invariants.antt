@@ -1,10 +1,8 @@
 use Prim.Native.Nat.{◌+◌, ◌-◌}
-use mathlib.Core.Path.{◌≡◌, refl, sym, ◌∙◌}
-use native.Mathlib.Omega.{arith}
+use mathlib.Core.Path.{◌≡◌}
 use lib.ListN.{drop}
 use Rattle.reading.specs.Records.{rule_list}
 use Rattle.reading.specs.Walk.{chain_rest}
-use Rattle.ruleset.proofs.rules.ChainLaws.{chain-on, chain-closed, chain-end}
 use Rattle.ruleset.proofs.rules.after_chain.Given as goal
 
 abbrev pub invariant-loop-i : goal.invariant-loop-i

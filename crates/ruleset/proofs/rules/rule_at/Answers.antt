@@ -1,4 +1,3 @@
-use borrow.Author.Rules.{rules}
 use mathlib.Core.Path.{sym}
 use Rattle.reading.specs.Call.{no_rule}
 use Rattle.lists.proofs.RecordLaws.{rule-is, rule-past}

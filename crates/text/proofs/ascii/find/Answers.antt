@@ -1,9 +1,5 @@
-use Prim.Native.Nat.{◌+◌, ◌-◌, ◌≤◌}
-use mathlib.Core.Path.{◌≡◌}
 use native.Mathlib.Omega.{arith}
 use native.Mathlib.Numerals.{add-one}
-use lib.ListN.{length, drop}
-use Rattle.reading.specs.Text.{index_of}
 use Rattle.text.proofs.ascii.Search.{index-here, index-later, index-none}
 use Rattle.text.proofs.ascii.find.Goals as goal
 

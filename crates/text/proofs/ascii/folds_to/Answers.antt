@@ -1,9 +1,6 @@
-use Prim.Native.Nat.{◌-◌, ◌≤◌}
-use mathlib.Core.Path.{◌≡◌, refl, sym, ◌∙◌}
+use mathlib.Core.Path.{sym, ◌∙◌}
 use native.Mathlib.Omega.{arith}
 use native.Mathlib.Numerals.{add-one}
-use lib.ListN.{length, drop}
-use Rattle.reading.specs.Text.{same, fold}
 use Rattle.text.proofs.ascii.Spelling.{other_length, same_byte, other_byte, same_end}
 use Rattle.text.proofs.ascii.folds_to.Goals as goal
 

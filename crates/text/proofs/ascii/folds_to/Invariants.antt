@@ -1,10 +1,7 @@
 use Prim.Native.Nat.{◌-◌, ◌≤◌}
-use mathlib.Core.Path.{◌≡◌, refl, sym, ◌∙◌}
-use native.Mathlib.Omega.{arith}
-use native.Mathlib.Numerals.{add-one}
+use mathlib.Core.Path.{◌≡◌}
 use lib.ListN.{length, drop}
 use Rattle.reading.specs.Text.{same, fold}
-use Rattle.text.proofs.ascii.Spelling.{other_length, same_byte, other_byte, same_end}
 use Rattle.text.proofs.ascii.folds_to.Given as goal
 
 abbrev pub invariant-loop-i : goal.invariant-loop-i

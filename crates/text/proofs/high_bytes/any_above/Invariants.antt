@@ -1,12 +1,9 @@
 use Prim.Native.Nat.{◌-◌, ◌≤◌}
-use mathlib.Core.Path.{◌≡◌, sym, ◌∙◌}
+use mathlib.Core.Path.{◌≡◌}
 use mathlib.Core.Bool.{◌||◌}
-use native.Mathlib.Omega.{arith}
-use native.Mathlib.Numerals.{add-one}
 use lib.Dec.{ltb}
 use lib.ListN.{length, drop}
 use Rattle.reading.specs.Lists.{any}
-use Rattle.text.proofs.high_bytes.Above.{above-start, above_more, above-end}
 use Rattle.text.proofs.high_bytes.any_above.Given as goal
 
 abbrev pub invariant-loop-i : goal.invariant-loop-i

@@ -1,10 +1,7 @@
-use Prim.Native.Nat.{◌-◌, ◌≤◌}
-use mathlib.Core.Path.{◌≡◌, sym, ◌∙◌}
+use mathlib.Core.Path.{sym, ◌∙◌}
 use native.Mathlib.Omega.{arith}
 use native.Mathlib.Numerals.{add-one}
-use lib.ListN.{length, drop}
-use Rattle.reading.specs.Text.{digits}
-use Rattle.text.proofs.number.Digits.{digits_from, digits-none, digits-start, digits_more, digits_low, digits-high, digits-large}
+use Rattle.text.proofs.number.Digits.{digits-none, digits-start, digits_more, digits_low, digits-high, digits-large}
 use Rattle.text.proofs.number.Digits.{digits-end}
 use Rattle.text.proofs.number.read_digits.Goals as goal
 

@@ -1,11 +1,8 @@
 use Prim.Native.Nat.{◌-◌, ◌≤◌}
-use mathlib.Core.Path.{◌≡◌, sym, ◌∙◌}
-use native.Mathlib.Omega.{arith}
-use native.Mathlib.Numerals.{add-one}
+use mathlib.Core.Path.{◌≡◌}
 use lib.ListN.{length, drop}
 use Rattle.reading.specs.Text.{digits}
-use Rattle.text.proofs.number.Digits.{digits_from, digits-none, digits-start, digits_more, digits_low, digits-high, digits-large}
-use Rattle.text.proofs.number.Digits.{digits-end}
+use Rattle.text.proofs.number.Digits.{digits_from}
 use Rattle.text.proofs.number.read_digits.Given as goal
 
 abbrev pub invariant-loop-i : goal.invariant-loop-i

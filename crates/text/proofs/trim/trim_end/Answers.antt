@@ -1,11 +1,6 @@
-use Prim.Native.Nat.{◌≤◌}
-use mathlib.Core.Path.{◌≡◌, sym, ap, ◌∙◌}
+use mathlib.Core.Path.{sym, ◌∙◌}
 use native.Mathlib.Omega.{arith}
-use lib.ListN.{length, take}
-use Rattle.reading.specs.Text.{trim_end}
-use Rattle.lists.proofs.Slices.{front_length}
 use Rattle.text.proofs.trim.Trimming.{back-blank, back-other, back_none}
-use lib.Seq.{take_all}
 use Rattle.text.proofs.trim.trim_end.Goals as goal
 
 pub loop-n-preserved : goal.loop-n-preserved

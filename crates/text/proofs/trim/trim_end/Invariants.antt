@@ -1,11 +1,7 @@
 use Prim.Native.Nat.{◌≤◌}
-use mathlib.Core.Path.{◌≡◌, sym, ap, ◌∙◌}
-use native.Mathlib.Omega.{arith}
+use mathlib.Core.Path.{◌≡◌}
 use lib.ListN.{length, take}
 use Rattle.reading.specs.Text.{trim_end}
-use Rattle.lists.proofs.Slices.{front_length}
-use Rattle.text.proofs.trim.Trimming.{back-blank, back-other, back_none}
-use lib.Seq.{take_all}
 use Rattle.text.proofs.trim.trim_end.Given as goal
 
 abbrev pub invariant-loop-n : goal.invariant-loop-n

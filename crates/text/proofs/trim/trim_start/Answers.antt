@@ -1,9 +1,6 @@
-use Prim.Native.Nat.{◌-◌, ◌≤◌}
-use mathlib.Core.Path.{◌≡◌, refl, sym, ◌∙◌}
+use mathlib.Core.Path.{sym, ◌∙◌}
 use native.Mathlib.Omega.{arith}
 use native.Mathlib.Numerals.{add-one}
-use lib.ListN.{length, drop}
-use Rattle.reading.specs.Text.{trim_start}
 use Rattle.lists.proofs.Slices.{rest_eq}
 use Rattle.text.proofs.trim.Trimming.{start-blank, start-other, start_none}
 use Rattle.text.proofs.trim.trim_start.Goals as goal

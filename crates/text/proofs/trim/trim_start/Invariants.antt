@@ -1,11 +1,7 @@
 use Prim.Native.Nat.{◌-◌, ◌≤◌}
-use mathlib.Core.Path.{◌≡◌, refl, sym, ◌∙◌}
-use native.Mathlib.Omega.{arith}
-use native.Mathlib.Numerals.{add-one}
+use mathlib.Core.Path.{◌≡◌}
 use lib.ListN.{length, drop}
 use Rattle.reading.specs.Text.{trim_start}
-use Rattle.lists.proofs.Slices.{rest_eq}
-use Rattle.text.proofs.trim.Trimming.{start-blank, start-other, start_none}
 use Rattle.text.proofs.trim.trim_start.Given as goal
 
 abbrev pub invariant-loop-i : goal.invariant-loop-i

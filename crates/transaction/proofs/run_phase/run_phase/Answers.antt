@@ -12,8 +12,7 @@ use Rattle.reading.specs.Walk.{nothing_to_do}
 use Rattle.reading.specs.Refusals.{refusal_of}
 use Rattle.lists.proofs.RecordLaws.{length-actions}
 use Rattle.apply.specs.Codes.{codes_of}
-use Rattle.refusals.specs.declared.first.Sizes.{Sizes}
-use Rattle.refusals.specs.FirstRefusal.{Sized, Roomed, first_of_seven}
+use Rattle.refusals.specs.FirstRefusal.{Sized, first_of_seven}
 use Rattle.transaction.specs.declared.types.Transaction.{Transaction}
 use Rattle.transaction.proofs.Promise.{few-of-seven}
 use Rattle.transaction.proofs.Tested.{Lent, given_in, call_at, sized-so, roomed-so, idle-is, digested, limited}

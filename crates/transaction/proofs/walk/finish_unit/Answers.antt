@@ -1,7 +1,5 @@
-use Prim.Native.Nat.{◌*◌, ◌<◌, ◌^◌}
+use Prim.Native.Nat.{◌*◌}
 use mathlib.Core.Path.{refl, ap, ◌∙◌}
-use native.Mathlib.Omega.{arith}
-use lib.ListN.{length, length-drop}
 use Rattle.reading.specs.declared.RuleEngineMode.{RuleEngineMode}
 use Rattle.reading.specs.Numbers.{mode_of_number}
 use Rattle.reading.specs.Records.{marker_list, given_of}
@@ -9,8 +7,6 @@ use Rattle.apply.specs.Append.{struct_of}
 use Rattle.transaction.specs.WalkRules.{members_at, left_under}
 use Rattle.transaction.proofs.Found.{mode-law}
 use Rattle.transaction.proofs.Parts.{lent_is, put_back}
-use Rattle.transaction.proofs.Turn.{wrote-few}
-use borrow.Author.Rules.{rules}
 use Rattle.transaction.proofs.walk.finish_unit.Goals as goal
 
 pub returns : goal.returns

@@ -1,14 +1,11 @@
 use Prim.Native.Nat.{ℕ, ◌*◌}
 use mathlib.Core.Path.{◌∙◌, ap, sym}
 use mathlib.Core.List.{[], ◌∷◌}
-use native.Mathlib.Omega.{arith}
-use lib.Seq.{lt-length-set}
 use Rattle.reading.specs.Numbers.{verdict_number}
 use Rattle.reading.specs.Records.{rule_list}
 use Rattle.reading.specs.Outcome.{at_free_end}
 use Rattle.transaction.proofs.Found.{visit-verdict}
 use Rattle.transaction.proofs.Parts.{put-at}
-use borrow.Author.Rules.{rules}
 use Rattle.transaction.proofs.walk.visit_next.Goals as goal
 
 pub returns-clause-journal_after : goal.returns-clause-journal_after

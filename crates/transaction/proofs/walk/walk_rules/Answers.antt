@@ -1,6 +1,6 @@
-use Prim.Native.Nat.{ℕ, ◌+◌, ◌*◌, ◌/◌, ◌<◌, min}
+use Prim.Native.Nat.{ℕ, ◌/◌, ◌<◌, min}
 use mathlib.Core.Path.{◌≡◌, refl, sym, ap, subst, ◌∙◌}
-use mathlib.Core.Bool.{true, false, cond}
+use mathlib.Core.Bool.{cond}
 use mathlib.Core.List.{List}
 use borrow.Author.Tests.{not-true, not-false}
 use lib.ListN.{length, get_or}
@@ -80,12 +80,12 @@ walked a at e r l = subst (λ (t : Transaction). Walked (given a) t (lists a) r 
 abbrev turn : (a : Asked) (begun : WalkState) → begun ≡ start_of a.t → Ready (given a) (fresh a.t) a.codes (lists a)
     → (ids entries journal starts ends phases positions : List ℕ) (at : WalkState)
     → Sofar (given a) (entry a begun) a.ids a.entries a.journal ids entries journal (struct_of at.counts starts ends phases positions)
-        at.counts.added at.state at.visits at.ids at.entries
+    at.counts.added at.state at.visits at.ids at.entries
     → at.state.next < length a.rules / 5
     → (v : VisitOutcome)
     → v ≡ found_at (rule_list a.rules) at.state at.visits
-        (cond (found_by_halving (min at.counts.ranges 256) starts ends (record_id (get_or (rule_list a.rules) at.state.next no_rule)))
-        Verdict.Removed (verdict_by (get_or a.outcomes at.state.next 0)))
+    (cond (found_by_halving (min at.counts.ranges 256) starts ends (record_id (get_or (rule_list a.rules) at.state.next no_rule)))
+    Verdict.Removed (verdict_by (get_or a.outcomes at.state.next 0)))
     → Turning
 turn a begun from before ids entries journal starts ends phases positions at so inside v v-is =
     let held = struct_of at.counts starts ends phases positions in

@@ -1,29 +1,13 @@
-use Prim.Native.Nat.{ℕ, ◌+◌, ◌-◌, ◌*◌, ◌/◌, ◌≤◌, ◌<◌, ◌^◌}
-use mathlib.Core.Path.{◌≡◌, refl, sym, ap, subst, ◌∙◌}
-use mathlib.Core.Bool.{true, false}
+use Prim.Native.Nat.{ℕ, ◌-◌, ◌/◌}
+use mathlib.Core.Bool.{false}
 use mathlib.Core.List.{List}
-use native.Mathlib.Omega.{arith}
-use borrow.Author.Tests.{not-true, not-false}
-use borrow.Author.Rules.{rules}
 use lib.ListN.{length}
 use Rattle.reading.specs.declared.OptionIntervention.{OptionIntervention}
 use Rattle.reading.specs.Records.{marker_list, given_of}
-use Rattle.reading.specs.Call.{Given}
-use Rattle.reading.specs.Walk.{verdict_at}
-use Rattle.control.specs.ControlsStruct.{controls_of}
-use Rattle.control.specs.declared.state.Controls.{Controls}
 use Rattle.apply.specs.Append.{struct_of}
-use Rattle.unit.specs.declared.visit.VisitOutcome.{VisitOutcome}
-use Rattle.unit.specs.VisitRule.{found_at}
-use Rattle.transaction.specs.declared.types.Phase.{Phase}
 use Rattle.transaction.specs.declared.types.WalkState.{WalkState}
 use Rattle.transaction.specs.declared.types.Transaction.{Transaction}
-use Rattle.transaction.specs.WalkRules.{WalkLists, walk_lists, fresh, Ready, Walked, UnitClosed}
-use Rattle.transaction.proofs.Found.{verdict-found, visit-found}
-use Rattle.transaction.proofs.Progress.{Sofar, sofar-none, sofar-end, few-ranges, journal-same, ids-same, entries-same}
-use Rattle.transaction.proofs.Turn.{Turning, inside-rules, past-rules, journal-ahead, visits-fit, journal-long}
-use Rattle.transaction.proofs.Turn.{sofar-on, fewer-left-on, sofar-error, room-closed, ids-closed, entries-closed}
-use Rattle.transaction.proofs.Turn.{sofar-closed, fewer-left-closed, walked-closed}
+use Rattle.transaction.proofs.Progress.{Sofar}
 use Rattle.transaction.proofs.walk.walk_rules.Given as goal
 
 -- the transaction at entry, by the walk's first state and the arrays

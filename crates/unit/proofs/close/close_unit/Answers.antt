@@ -1,5 +1,4 @@
 use Rattle.unit.proofs.close.CloseLaws.{closed-now}
-use borrow.Author.Rules.{rules}
 use Rattle.unit.proofs.close.close_unit.Goals as goal
 
 pub returns : goal.returns

@@ -1,17 +1,13 @@
-use Prim.Native.Nat.{ℕ, ◌+◌, ◌-◌, ◌*◌, ◌/◌, ◌<◌, ◌^◌}
+use Prim.Native.Nat.{◌+◌, ◌*◌}
 use mathlib.Core.Path.{◌≡◌}
-use mathlib.Core.List.{List, [], ◌∷◌}
+use mathlib.Core.List.{[], ◌∷◌}
 use mathlib.Core.Bool.{◌&&◌}
 use lib.Dec.{eqb}
 use Rattle.reading.specs.Lists.{keep}
-use native.Mathlib.Omega.{arith}
-use lib.ListN.{length, get_or}
-use Rattle.reading.specs.declared.OptionU64.{OptionU64}
-use Rattle.reading.specs.declared.DataEntry.{DataEntry}
+use lib.ListN.{get_or}
 use Rattle.reading.specs.Records.{rule_list}
 use Rattle.unit.specs.CloseUnit.{member_entry}
-use Rattle.unit.proofs.close.EntryLaws.{Sofar, sofar-start, sofar-more, sofar-end, data_from, data-more, data-end, at_most_one}
-use borrow.Author.Rules.{rules}
+use Rattle.unit.proofs.close.EntryLaws.{sofar-start, sofar-more, sofar-end, data_from, data-more, data-end, at_most_one}
 use Rattle.unit.proofs.close.put_entries.Invariants.{entries_from}
 use Rattle.unit.proofs.close.put_entries.Goals as goal
 

@@ -1,7 +1,6 @@
 use mathlib.Core.Path.{sym}
 use Rattle.lists.proofs.RecordLaws.{length-rules}
 use Rattle.unit.proofs.flow.FlowLaws.{flow-on, flow-chain, flow-skip, flow-after}
-use borrow.Author.Rules.{rules}
 use Rattle.unit.proofs.flow.after_flow.Goals as goal
 
 pub returns-in-Continue : goal.returns-in-Continue

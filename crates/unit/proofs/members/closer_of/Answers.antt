@@ -1,12 +1,7 @@
-use Prim.Native.Nat.{ℕ, ◌-◌, ◌+◌, ◌≤◌}
-use mathlib.Core.Path.{◌≡◌, sym, ap, ◌∙◌}
+use Prim.Native.Nat.{◌-◌, ◌+◌}
+use mathlib.Core.Path.{◌≡◌, sym, ◌∙◌}
 use native.Mathlib.Omega.{arith}
-use lib.ListN.{length, take}
-use Prim.Native.Nat.{◌/◌}
-use Rattle.reading.specs.Records.{journal_list, matched_in}
-use Rattle.reading.specs.Units.{closer_of}
 use Rattle.unit.proofs.members.MatchedLaws.{closer-yes, closer-no, closer-all}
-use borrow.Author.Rules.{rules}
 use Rattle.unit.proofs.members.closer_of.Goals as goal
 
 pub loop-k-init : goal.loop-k-init

@@ -1,12 +1,9 @@
-use Prim.Native.Nat.{ℕ, ◌-◌, ◌+◌, ◌≤◌}
-use mathlib.Core.Path.{◌≡◌, sym, ap, ◌∙◌}
-use native.Mathlib.Omega.{arith}
+use Prim.Native.Nat.{◌≤◌}
+use mathlib.Core.Path.{◌≡◌}
 use lib.ListN.{length, take}
 use Prim.Native.Nat.{◌/◌}
 use Rattle.reading.specs.Records.{journal_list, matched_in}
 use Rattle.reading.specs.Units.{closer_of}
-use Rattle.unit.proofs.members.MatchedLaws.{closer-yes, closer-no, closer-all}
-use borrow.Author.Rules.{rules}
 use Rattle.unit.proofs.members.closer_of.Given as goal
 
 abbrev pub invariant-loop-k : goal.invariant-loop-k

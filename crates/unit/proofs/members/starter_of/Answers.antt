@@ -1,10 +1,6 @@
-use Prim.Native.Nat.{◌-◌, ◌/◌}
-use mathlib.Core.Path.{◌≡◌, refl, sym, ap, ◌∙◌}
-use lib.ListN.{length, drop}
-use Rattle.reading.specs.Records.{journal_list, matched_in}
+use mathlib.Core.Path.{sym, ap, ◌∙◌}
 use Rattle.reading.specs.Units.{starter_of}
 use Rattle.unit.proofs.members.MatchedLaws.{matched-yes, matched-no, matched-end}
-use borrow.Author.Rules.{rules}
 use Rattle.unit.proofs.members.starter_of.Goals as goal
 
 pub returns-then-entries-k-eq1 : goal.returns-then-entries-k-eq1

@@ -1,10 +1,8 @@
 use Prim.Native.Nat.{◌-◌, ◌/◌}
-use mathlib.Core.Path.{◌≡◌, refl, sym, ap, ◌∙◌}
+use mathlib.Core.Path.{◌≡◌}
 use lib.ListN.{length, drop}
 use Rattle.reading.specs.Records.{journal_list, matched_in}
 use Rattle.reading.specs.Units.{starter_of}
-use Rattle.unit.proofs.members.MatchedLaws.{matched-yes, matched-no, matched-end}
-use borrow.Author.Rules.{rules}
 use Rattle.unit.proofs.members.starter_of.Given as goal
 
 abbrev pub invariant-loop-k : goal.invariant-loop-k

@@ -1,6 +1,4 @@
 use Rattle.unit.proofs.visit.FoundLaws.{past, missed, failed, waits, breaks, closes, passes}
-use borrow.Author.Rules.{rules}
-use borrow.Author.Rules.{rules}
 use Rattle.unit.proofs.visit.visit.Goals as goal
 
 pub returns-then-rules-next : goal.returns-then-rules-next

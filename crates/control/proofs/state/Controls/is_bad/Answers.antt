@@ -1,4 +1,3 @@
-use borrow.Author.Rules.{rules}
 use mathlib.Core.Path.{sym, ◌∙◌}
 use Rattle.control.proofs.state.HeldLaws.{bad, bad-empty}
 use Rattle.control.proofs.state.Controls.is_bad.Goals as goal

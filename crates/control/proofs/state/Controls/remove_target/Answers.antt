@@ -1,7 +1,5 @@
 use borrow.Author.Rules.{rules}
-use mathlib.Core.Path.{◌≡◌, sym, ◌∙◌}
 use native.Mathlib.Omega.{arith}
-use lib.ListN.{length, length-map}
 use borrow.Author.Tests.{le-leb}
 use Rattle.control.proofs.state.HeldLaws.{target-refused, target-added}
 use Rattle.control.proofs.state.Controls.remove_target.Goals as goal

@@ -1,9 +1,7 @@
 use borrow.Author.Rules.{rules}
-use mathlib.Core.Path.{◌≡◌, sym, ◌∙◌}
-use native.Mathlib.Omega.{arith}
-use mathlib.Core.Bool.{false}
-use lib.ListN.{length, length-map}
-use Rattle.control.proofs.state.HeldLaws.{cleared-set, range-merged}
+use mathlib.Core.Path.{◌≡◌}
+use lib.ListN.{length}
+use Rattle.control.proofs.state.HeldLaws.{range-merged}
 use Rattle.control.proofs.state.Controls.with_range.Goals as goal
 
 pub returns : goal.returns
