@@ -1,4 +1,4 @@
-//! Links target/staticlib/libhost.a, which `rt staticlib host` writes.
+//! Links target/staticlib/libhost.a, which `library host` of library.sh makes.
 
 use std::env;
 use std::path::Path;
