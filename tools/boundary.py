@@ -14,6 +14,7 @@ CONSTANTS = ("limits", "widths", "kinds")  # modules of the crate reading
 NUMBERS = "crates/reading/specs/Numbers.antt"
 BYTES = {"u8": 1, "u16": 2, "u32": 4, "u64": 8, "usize": 8, "bool": 1}
 TOKEN = re.compile(r"//[^\n]*|\w+|->|::|\S")
+NO_MANGLE = "#[unsafe(no_mangle)]"
 EXPORTED = re.compile(r'^pub extern "C" fn (\w+)\(', re.M)
 # A name of a field or a parameter becomes one in Rust, in C and in C++.
 KEYWORDS = set("""alignas alignof and asm auto bool case catch char class compl const constexpr decltype default delete do double
@@ -132,6 +133,12 @@ def above(text, start, mark="//"):
     return "\n".join(comment).strip(), attributes
 
 
+def each_used(used):
+    """The paths of a `use` line, of which several may stand in braces behind what they begin with."""
+    start, _, listed = used.partition("{")
+    return [start + name.strip() for name in listed.rstrip("} \n").split(",") if name.strip()] if listed else [used]
+
+
 class File:
     """A .rt file: its text, and what its `use` lines name."""
 
@@ -140,9 +147,9 @@ class File:
         self.path = f"crates/{crate}/{path}"
         self.text = read(os.path.join(root, self.path))
         self.uses = {}
-        for used in re.findall(r"^(?:pub )?use ([\w:]+);", self.text, re.M):
-            names = used.split("::")
-            self.uses[names[-1]] = [crate] + names[1:] if names[0] == "crate" else names
+        for used in re.findall(r"^(?:pub )?use ([\w:{},\s]+);", self.text, re.M):
+            for names in (one.split("::") for one in each_used(used)):
+                self.uses[names[-1]] = [crate] + names[1:] if names[0] == "crate" else names
 
     def refuse(self, place, why):
         raise Refused(f"{self.path}:{self.text.count(chr(10), 0, place) + 1}: {why}")
@@ -294,9 +301,9 @@ class Reader:
 
     def functions(self, file):
         found = list(EXPORTED.finditer(file.text))
-        exported = [match for match in found if "#[no_mangle]" in above(file.text, match.start())[1]]
-        if len(exported) != len(re.findall(r"^\s*#\[no_mangle\]", file.text, re.M)):
-            file.refuse(0, "a #[no_mangle] does not stand above a pub extern \"C\" fn")
+        exported = [match for match in found if NO_MANGLE in above(file.text, match.start())[1]]
+        if len(exported) != len(re.findall(r"^\s*#\[.*\bno_mangle\b", file.text, re.M)):
+            file.refuse(0, f"a {NO_MANGLE} does not stand above a pub extern \"C\" fn")
         return [self.function(file, match) for match in exported]
 
     def function(self, file, match):
@@ -354,12 +361,12 @@ def constants(file):
 
 
 def numbers(text):
-    """The definitions `caseNumber : Enum → ℕ` that give each case of an enum a number as such, or one more than that of the value that
+    """The definitions `case_number : Enum → ℕ` that give each case of an enum a number as such, or one more than that of the value that
     the case holds. Others are not numbers of cases."""
     found = {}
-    for match in re.finditer(r"^(?:\w+ )*pub (\w+)Number : (\w+) → ℕ\n((?:\1Number .*\n?)+)", text, re.M):
+    for match in re.finditer(r"^(?:\w+ )*pub (\w+)_number : (\w+) → ℕ\n((?:\1_number .*\n?)+)", text, re.M):
         name, enum, lines = match.groups()
-        cases = [cases_in(line, f"{name}Number", enum, found) for line in lines.splitlines()]
+        cases = [cases_in(line, f"{name}_number", enum, found) for line in lines.splitlines()]
         if all(cases):
             doc, _ = above(text, match.start(), "--")
             found[name] = Group(name, name, [case for some in cases for case in some], doc)
@@ -368,7 +375,7 @@ def numbers(text):
 
 def cases_in(line, name, enum, found):
     """The cases that a line of such a definition gives numbers to, none where it gives no number."""
-    match = re.fullmatch(rf"{name} \(?{enum}\.(\w+)(?: (\w+)\))? = (?:(\d+)|ℕ\.suc \((\w+)Number \2\))", line)
+    match = re.fullmatch(rf"{name} \(?{enum}\.(\w+)(?: (\w+)\))? = (?:(\d+)|(?:ℕ\.)?suc \((\w+)_number \2\))", line)
     if not match:
         return []
     case, _, number, other = match.groups()

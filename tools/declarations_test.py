@@ -11,12 +11,13 @@ from boundary import Refused
 from sources import ROOT
 
 SOURCES = {
-    "crates.txt": "# numbers\nreading:\n# structs\nbase: reading\n# calls\nhost: reading base\n# no part of the library\nother: base\n",
+    "crates.txt": "# numbers\nreading:\n# structs\nbase: reading\n# calls\nhost staticlib: reading base\n# no part of the library\nother: base\n",
     "crates/reading/src/lib.rt": """pub mod kinds;
 pub mod limits;
 pub mod widths;
 
 // A step, lent as numbers.
+#[derive(Clone, Copy)]
 pub struct Step {
     pub from: u64,
     pub to: u64,
@@ -26,21 +27,22 @@ pub struct Step {
     "crates/reading/src/widths.rt": "pub const STEP: usize = 2;\n",
     "crates/reading/src/kinds.rt": "pub const GO_ON: u64 = 0x10;\n",
     "crates/reading/specs/Numbers.antt": """-- 01's numbers
-abbrev pub sideNumber : Side → ℕ
-sideNumber Side.Left = 0
-sideNumber (Side.FarRight n) = 7
+abbrev pub side_number : Side → ℕ
+side_number Side.Left = 0
+side_number (Side.FarRight n) = 7
 
-abbrev pub sideSettingNumber : SideSetting → ℕ
-sideSettingNumber SideSetting.Unset = 0
-sideSettingNumber (SideSetting.Set s) = ℕ.suc (sideNumber s)
+abbrev pub side_setting_number : SideSetting → ℕ
+side_setting_number SideSetting.Unset = 0
+side_setting_number (SideSetting.Set s) = ℕ.suc (side_number s)
 
-abbrev pub otherNumber : Other → ℕ
-otherNumber (Other.One n) = n
+abbrev pub other_number : Other → ℕ
+other_number (Other.One n) = n
 """,
     "crates/base/src/lib.rt": "pub mod parts;\n",
     "crates/base/src/parts.rt": """use reading::limits;
 
 // A pair.
+#[derive(Clone, Copy)]
 #[repr(C)]
 pub struct Pair {
     // The flag
@@ -54,6 +56,7 @@ pub struct Pair {
 }
 
 // Holds pairs */ and more.
+#[derive(Clone, Copy)]
 #[repr(C)]
 pub struct Nest {
     pub pair: Pair,
@@ -67,13 +70,16 @@ pub struct Inner {
     pub x: Unknown,
 }
 """,
-    "crates/host/src/lib.rt": "pub mod calls;\n",
-    "crates/host/src/calls.rt": """use base::parts;
-use base::parts::Nest;
-use base::parts::Pair;
-ghost use Rattle·base.specs.Nothing.{nothing};
+    "crates/host/src/lib.rt": "#![tactic(auto)]\n\npub mod calls;\n",
+    "crates/host/src/calls.rt": """ghost use Rattle.base.specs.Nothing.{nothing};
+
+use base::parts;
+use base::parts::{
+    Nest, Pair,
+};
 
 // Answers.
+#[derive(Clone, Copy)]
 #[repr(C)]
 pub struct Answer {
     pub counts: parts::Pair,
@@ -81,7 +87,7 @@ pub struct Answer {
 }
 
 // A call with everything.
-#[no_mangle]
+#[unsafe(no_mangle)]
 pub extern "C" fn tivembo_call(
     t: &mut Nest,
     seen: &Pair,
@@ -89,19 +95,19 @@ pub extern "C" fn tivembo_call(
     pairs: &[Pair],
     steps: &mut [u64],
 ) -> Answer
-    ensures { λ r. ⌜ r ≡ nothing ⌝ }
+    ensures { result ≡ nothing }
 {
     helper()
 }
 
-#[no_mangle]
+#[unsafe(no_mangle)]
 pub extern "C" fn tivembo_stop(n: usize) {
 }
 
 pub fn helper() -> Answer {
 }
 """,
-    "crates/other/src/lib.rt": "#[no_mangle]\npub extern \"C\" fn tivembo_other(n: Unknown) {\n}\n",
+    "crates/other/src/lib.rt": "#[unsafe(no_mangle)]\npub extern \"C\" fn tivembo_other(n: Unknown) {\n}\n",
 }
 
 # What must stand in the files, blanks aside.
@@ -151,17 +157,18 @@ STALE = [
 ]
 # Changes that must be refused, each with what is said.
 REFUSED = [
-    (PARTS, "pub small: u16", "pub small: Unknown", "parts.rt:9: no type Unknown"),
+    (PARTS, "pub small: u16", "pub small: Unknown", "parts.rt:10: no type Unknown"),
     (PARTS, "pub small: u16", "pub small: i128", "no type i128"),
     (PARTS, "pub small: u16", "pub small: &[u64]", "a name is expected, and & stands there"),
     (PARTS, "pub small: u16", "pub class: u16", "class is a word of C or C++"),
-    (PARTS, "// A pair.\n#[repr(C)]", "// A pair.", "Pair goes over and is not #[repr(C)]"),
+    (PARTS, "// A pair.\n#[derive(Clone, Copy)]\n#[repr(C)]", "// A pair.\n#[derive(Clone, Copy)]", "Pair goes over and is not #[repr(C)]"),
     (PARTS, "limits::STEPS", "limits::OTHERS", "limits::OTHERS is not a constant"),
-    (CALLS, "    ensures", "    requires { ⌜ n ⌝ }\n    ensures", "asks nothing of its caller, and requires stands there"),
+    (CALLS, "    ensures", "    requires { n }\n    ensures", "asks nothing of its caller, and requires stands there"),
     (CALLS, "tivembo_stop", "stop", "begins with tivembo_"),
     (CALLS, "pairs: &[Pair]", "pairs: &[[u64; 2]]", "a number or a struct is expected"),
-    (CALLS, "settings: Pair", "settings: Pair<u64>", "calls.rt:18: , is expected, and < stands there"),
-    (CALLS, "pub fn helper", "#[no_mangle]\npub fn helper", "a #[no_mangle] does not stand above"),
+    (CALLS, "settings: Pair", "settings: Pair<u64>", "calls.rt:21: , is expected, and < stands there"),
+    (CALLS, "pub fn helper", "#[unsafe(no_mangle)]\npub fn helper", "a #[unsafe(no_mangle)] does not stand above"),
+    (CALLS, "#[unsafe(no_mangle)]", "#[no_mangle]", "a #[unsafe(no_mangle)] does not stand above"),
     (CALLS, "pub answer: u64", "pub answer: missing::Thing", "missing::Thing is not known"),
     ("crates/reading/src/widths.rt", "2", "3", "STEP is 3, and Step is not so many numbers"),
     ("crates/reading/src/kinds.rt", "0x10", "OTHER + 1", "GO_ON is not a plain number"),

@@ -32,7 +32,8 @@ def crates(root=ROOT):
         if line.startswith("#"):
             comment = line[1:].strip()
         elif ":" in line:
-            name, needs = line.split(":")
+            named, needs = line.split(":")
+            name = named.split()[0]  # what a crate is made into, as `staticlib`, stands after its name
             yield Crate(name, needs.split(), comment, os.path.join(root, "crates", name))
             comment = ""
 
