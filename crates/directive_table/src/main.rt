@@ -6,7 +6,7 @@
 // A read or a write that fails ends the run with its error.
 #![tactic(auto)]
 
-ghost use Rattle.std.specs.Prelude.{◌≤◌};
+ghost use Rattle.std.specs.Prelude.{◌≡◌, ◌≤◌, length, OnErr};
 ghost use Rattle.std.specs.Io.{ReadsAtMost};
 
 use ctl::read::ReadAnswer;
@@ -271,9 +271,10 @@ fn read_full<R: Read>(input: &mut R, buf: &mut [u8]) -> io::Result<usize>
     Ok(done)
 }
 
-// Reads `n` bytes after the fill bytes, and answers where the text ends.
+// Reads `n` bytes after the fill bytes, and answers where the text ends. A read that fails leaves a text of the same length.
 fn read_text<R: Read>(input: &mut R, text: &mut [u8], fill: usize, n: usize) -> io::Result<usize>
-    ensures { ReadsAtMost result text.new }
+    ensures ok { ReadsAtMost result text.new }
+    ensures err { OnErr result (length text.new ≡ length text.old) }
 {
     if text.len() < fill {
         return Ok(0);

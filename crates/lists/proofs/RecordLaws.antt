@@ -15,10 +15,10 @@ module _ {A : Type 0} where
   length-values f zero = refl
   length-values f (suc n) = ap suc (length-values (λ i. f (suc i)) n)
 
-  pub get_d-values : (f : ℕ → A) (n i : ℕ) (d : A) → i < n → get_or (values f n) i d ≡ f i
-  get_d-values f zero i d h = absurd (omega arith)
-  get_d-values f (suc n) zero d h = refl
-  get_d-values f (suc n) (suc i) d h = get_d-values (λ k. f (suc k)) n i d (omega arith)
+  pub get_or-values : (f : ℕ → A) (n i : ℕ) (d : A) → i < n → get_or (values f n) i d ≡ f i
+  get_or-values f zero i d h = absurd (omega arith)
+  get_or-values f (suc n) zero d h = refl
+  get_or-values f (suc n) (suc i) d h = get_or-values (λ k. f (suc k)) n i d (omega arith)
 
   pub drop-values : (f : ℕ → A) (n i : ℕ) → i < n → drop i (values f n) ≡ f i ∷ drop (suc i) (values f n)
   drop-values f zero i h = absurd (omega arith)
@@ -43,7 +43,7 @@ module _ {A : Type 0} (width : ℕ) (record_at : List ℕ → ℕ → A) (words 
   length-records = length-values (record_at words) (length words / width)
 
   pub record_is : (i : ℕ) (d : A) → i < length words / width → get_or (record_list width record_at words) i d ≡ record_at words i
-  record_is i d h = get_d-values (record_at words) (length words / width) i d h
+  record_is i d h = get_or-values (record_at words) (length words / width) i d h
 
   pub record-past : (i : ℕ) (d : A) → length words / width ≤ i → get_or (record_list width record_at words) i d ≡ d
   record-past i d h = get_or-eq_default (record_list width record_at words) d {n = i} (omega (arith, length-records))
