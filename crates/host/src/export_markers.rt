@@ -1,4 +1,4 @@
-// Where does this name lead? Thin, and proved by hand, because the markers are lent as a list of records.
+// Where does this name lead? Thin: the markers are lent as a list of records.
 ghost use Rattle.std.specs.Prelude.{◌≡◌};
 ghost use Rattle.abi.specs.MarkerLookup.{lookup};
 

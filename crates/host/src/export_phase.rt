@@ -1,4 +1,4 @@
-// The phase call, as C and Rust make it: thin, and proved by hand, because the transaction is lent by `&mut`.
+// The phase call, as C and Rust make it: thin, on a transaction that is lent by `&mut`.
 ghost use Rattle.reading.specs.Records.{given_of, lent};
 ghost use Rattle.abi.specs.HostCall.{HostRan};
 
