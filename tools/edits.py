@@ -59,14 +59,12 @@ def put(text, old, new, where):
     return text[:place] + new + text[place + len(old):], place
 
 
-def applied(edit, only=None):
-    """Each wrong program of an edit, or of these names alone, with what it changes, as (file, the file's text before, the place in it).
-    The later ones are put into what the earlier ones leave, as `rt` does it."""
+def applied(edit):
+    """Each wrong program of an edit with what it changes, as (file, the file's text before, the place in it). The later ones are
+    put into what the earlier ones leave, as `rt` does it."""
     crate = os.path.dirname(os.path.dirname(edit))
     files = {}
     for one in programs(edit):
-        if only is not None and one.name not in only:
-            continue
         places = []
         for path, old, new in one.pairs:
             text = files[path] if path in files else read(os.path.join(crate, path))
@@ -75,6 +73,9 @@ def applied(edit, only=None):
         yield one, places
 
 
-def edited(edit, only=None):
-    """The texts of the files that an edit, or the wrong programs of these names alone, changes, by their paths in the crate."""
-    return {path: put(text, old, new, path)[0] for one, places in applied(edit, only) for (path, text, _), (_, old, new) in zip(places, one.pairs)}
+def edited(edit):
+    """The texts of the files that an edit changes, with all of it put in, by their paths in the crate."""
+    texts = {}
+    for one, places in applied(edit):
+        texts.update((path, put(text, old, new, path)[0]) for (path, text, _), (_, old, new) in zip(places, one.pairs))
+    return texts
