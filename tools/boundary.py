@@ -362,11 +362,14 @@ def constants(file):
 
 def numbers(text):
     """The definitions `case_number : Enum → ℕ` that give each case of an enum a number as such, or one more than that of the value that
-    the case holds. Others are not numbers of cases."""
+    the case holds. Others are not numbers of cases. Of an `Option` the case without a value is a setting that is unset, where the one
+    with a value has the number of that value and one more."""
     found = {}
-    for match in re.finditer(r"^(?:\w+ )*pub (\w+)_number : (\w+) → ℕ\n((?:\1_number .*\n?)+)", text, re.M):
+    for match in re.finditer(r"^(?:\w+ )*pub (\w+)_number : ((?:Option )?[\wℕ]+) → ℕ\n((?:\1_number .*\n?)+)", text, re.M):
         name, enum, lines = match.groups()
         cases = [cases_in(line, f"{name}_number", enum, found) for line in lines.splitlines()]
+        if enum.startswith("Option ") and "suc (" in lines:
+            cases = [[case._replace(name="Unset") if case.name == "None" else case for case in some] for some in cases]
         if all(cases):
             doc, _ = above(text, match.start(), "--")
             found[name] = Group(name, name, [case for some in cases for case in some], doc)
@@ -375,7 +378,8 @@ def numbers(text):
 
 def cases_in(line, name, enum, found):
     """The cases that a line of such a definition gives numbers to, none where it gives no number."""
-    match = re.fullmatch(rf"{name} \(?{enum}\.(\w+)(?: (\w+)\))? = (?:(\d+)|(?:ℕ\.)?suc \((\w+)_number \2\))", line)
+    case = "(None|Some)" if enum.startswith("Option ") else rf"{enum}\.(\w+)"
+    match = re.fullmatch(rf"{name} \(?{case}(?: (\w+)\))? = (?:(\d+)|(?:ℕ\.)?suc \((\w+)_number \2\))", line)
     if not match:
         return []
     case, _, number, other = match.groups()

@@ -31,9 +31,9 @@ abbrev pub side_number : Side → ℕ
 side_number Side.Left = 0
 side_number (Side.FarRight n) = 7
 
-abbrev pub side_setting_number : SideSetting → ℕ
-side_setting_number SideSetting.Unset = 0
-side_setting_number (SideSetting.Set s) = ℕ.suc (side_number s)
+abbrev pub side_setting_number : Option Side → ℕ
+side_setting_number None = 0
+side_setting_number (Some s) = ℕ.suc (side_number s)
 
 abbrev pub other_number : Other → ℕ
 other_number (Other.One n) = n

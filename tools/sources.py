@@ -7,6 +7,7 @@ from edits import read
 
 ROOT = os.path.dirname(os.path.dirname(os.path.abspath(__file__)))
 DECLARED = re.compile(r'( *)(pub(?:\(\w+\))? )?(?:extern "C" )?fn (\w+)')
+MEMBER = re.compile(r"^    ghost (\w+) = \{ (.*?) \};$", re.M | re.S)
 
 
 class Crate(NamedTuple):
@@ -17,12 +18,13 @@ class Crate(NamedTuple):
 
 
 class Function(NamedTuple):
-    name: str  # of a method, with its struct: Controls::new
+    name: str  # of a method, with its type: Controls::new, Option<u64>::from
     start: int  # where its first line begins, and its last one ends
     end: int
-    contract: str  # its `requires` and `ensures`, blanks normalised
+    contract: str  # its `requires` and `ensures`, blanks normalised; of a trait's that has none, the ghost members named after it
     body: int  # where its body begins
     is_public: bool
+    folder: str  # of its proof, from that of the module
 
 
 def crates(root=ROOT):
@@ -57,22 +59,78 @@ def module_of(file):
 
 
 def functions(text):
-    """The functions of a .rt file. The layout is that of `rt fmt`: a function ends with a brace at its own margin."""
-    kind = found = None
+    """The functions of a .rt file that have a body. The layout is that of `rt fmt`: a function ends with a brace at its own margin. Of
+    a trait's functions those of an impl are as public as the trait, and those that the trait only declares are none."""
+    block = found = None
     end = -1
     for line in text.split("\n"):
         start, end = end + 1, end + 1 + len(line)
-        declared = re.match(r"impl (\w+) \{", line)
-        if declared:
-            kind = declared.group(1)
+        block = block_in(line, start) or block
         declared = DECLARED.match(line)
         if declared:
             margin, public, name = declared.groups()
-            found = (f"{kind}::{name}" if margin else name, start, public == "pub ")
+            found, has_body = (name, start, public == "pub "), line.endswith("{")
+        elif found and not has_body:
+            has_body = line == margin + "{" or line.startswith(margin + ")") and line.endswith("{")
+            found = None if line.endswith(";") and is_closed(text[found[1]:end]) else found
         if found and line == margin + "}":
             name, first, public = found
-            yield Function(name, first, end, *contract_in(text[first:end], margin, first), public)
+            contract, body = contract_in(text[first:end], margin, first)
+            if margin:
+                public = public or bool(block.trait)
+                contract = contract or members_after(name, text[block.start:first])
+                yield Function(f"{block.type}::{name}", first, end, contract, body, public, f"{block.folder}/{name}")
+            else:
+                yield Function(name, first, end, contract, body, public, name)
             found = None
+
+
+def is_closed(text):
+    """Whether every brace that a text opens is closed in it."""
+    return text.count("{") == text.count("}")
+
+
+class Block(NamedTuple):
+    """An impl, a trait or a module within a file."""
+    type: str  # whose functions it has, without its parameters' bounds: Controls, Option<u64>
+    trait: str  # of an impl of a trait, as written: From<HostNumber>
+    start: int
+    folder: str  # of its functions' proofs, from that of the module
+
+
+def block_in(line, start):
+    """The impl, trait or module that a line begins, or None."""
+    named = re.match(r"(?:pub(?:\(\w+\))? )?(?:trait (\w+).*|mod (\w+)) \{$", line)
+    if named:
+        return Block(named[1] or named[2], "", start, named[1] or named[2])
+    said = re.match(r"impl\b(.*) \{$", line)
+    if not said:
+        return None
+    parameters, rest = bracketed(said[1])
+    trait, _, of = rest.strip().rpartition(" for ")
+    own = set(re.findall(r"[\w']+", re.sub(r":[^,]*", "", parameters)))
+    return Block(of, trait, start, words_of(of, own) + words_of(trait, own))
+
+
+def bracketed(text):
+    """What stands in the angle brackets that a text begins with, and what stands after them."""
+    depth = 0
+    for place, letter in enumerate(text):
+        depth += (letter == "<") - (letter == ">")
+        if depth == 0:
+            return text[1:place], text[place + (letter == ">"):]
+    return "", text
+
+
+def words_of(named, own):
+    """The words of a type or trait as the name of an impl's folder has them: Option<u64> is OptionU64. Its own parameters are left out."""
+    words = re.findall(r"'?\w+", re.sub(r"\w+::", "", named.replace("&", "Ref ")))
+    return "".join(word[:1].upper() + word[1:] for word in words if word not in own and word[0] != "'")
+
+
+def members_after(name, text):
+    """The ghost members of an impl that say what its function of this name promises."""
+    return " ".join(f"ghost {member} = {{ {' '.join(term.split())} }}" for member, term in MEMBER.findall(text) if member in (name, name + "_gives"))
 
 
 def contract_in(text, margin, start):
@@ -89,7 +147,7 @@ def function_at(file, text, place):
     """The function whose lines a place of a .rt file lies in, as the path of its proof, with the modules, or None."""
     for function in functions(text):
         if function.start <= place <= function.end:
-            return "/".join(filter(None, [module_of(file), function.name.replace("::", "/")]))
+            return "/".join(filter(None, [module_of(file), function.folder]))
     return None
 
 

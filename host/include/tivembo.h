@@ -90,6 +90,17 @@ TIVEMBO_ASSERT(sizeof(bool) == 1);
 #define TIVEMBO_REASON_AUDIT UINT64_C(6)
 #define TIVEMBO_REASON_UNRECOGNISED UINT64_C(7)
 
+/* 01: "Number and order agree", from 1, an unknown phase or mode, to 9, too many targets */
+#define TIVEMBO_REFUSAL_SETTINGS UINT64_C(1)
+#define TIVEMBO_REFUSAL_TOO_LARGE UINT64_C(2)
+#define TIVEMBO_REFUSAL_COUNTS UINT64_C(3)
+#define TIVEMBO_REFUSAL_OUTCOMES UINT64_C(4)
+#define TIVEMBO_REFUSAL_RECORD UINT64_C(5)
+#define TIVEMBO_REFUSAL_HIGH_BYTE UINT64_C(6)
+#define TIVEMBO_REFUSAL_NO_ROOM UINT64_C(7)
+#define TIVEMBO_REFUSAL_RANGES UINT64_C(8)
+#define TIVEMBO_REFUSAL_TARGETS UINT64_C(9)
+
 /* The papers give no number to the cases below; these are ours (docs/DECISIONS.md, D12). */
 #define TIVEMBO_ACCESS_ON UINT64_C(0)
 #define TIVEMBO_ACCESS_OFF UINT64_C(1)

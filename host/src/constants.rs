@@ -77,6 +77,19 @@ pub mod reason {
     pub const UNRECOGNISED: u64 = 7;
 }
 
+/// 01: "Number and order agree", from 1, an unknown phase or mode, to 9, too many targets
+pub mod refusal {
+    pub const SETTINGS: u64 = 1;
+    pub const TOO_LARGE: u64 = 2;
+    pub const COUNTS: u64 = 3;
+    pub const OUTCOMES: u64 = 4;
+    pub const RECORD: u64 = 5;
+    pub const HIGH_BYTE: u64 = 6;
+    pub const NO_ROOM: u64 = 7;
+    pub const RANGES: u64 = 8;
+    pub const TARGETS: u64 = 9;
+}
+
 /// The papers give no number to the cases below; these are ours (docs/DECISIONS.md, D12).
 pub mod access {
     pub const ON: u64 = 0;

@@ -1,11 +1,8 @@
 -- The metadata and the intervention of a host's record: which of them are known (`known`), what they stand for, and what is written
 -- back.
-use Rattle.std.specs.Prelude.{Bool, cond, ◌&&◌, ◌||◌, eqb}
-use Rattle.reading.specs.declared.OptionU64.{OptionU64}
-use Rattle.reading.specs.declared.OptionPlace.{OptionPlace}
+use Rattle.std.specs.Prelude.{Bool, cond, ◌&&◌, ◌||◌, eqb, Option, Some, None}
 use Rattle.reading.specs.declared.RuleMetadata.{RuleMetadata}
 use Rattle.reading.specs.declared.Intervention.{Intervention}
-use Rattle.reading.specs.declared.OptionIntervention.{OptionIntervention}
 use Rattle.abi.specs.HostValues.{flag_of, flag_number, flag_known, number_of, host_number, number_known, place_of, host_place, place_known}
 use Rattle.abi.specs.declared.host_intervention.HostMetadata.{HostMetadata}
 use Rattle.abi.specs.declared.host_intervention.HostIntervention.{HostIntervention}
@@ -44,21 +41,21 @@ metadata_known h =
 
 abbrev no_metadata : RuleMetadata
 no_metadata = record {
-  id = OptionU64.None;
-  msg = OptionPlace.None;
-  logdata = OptionPlace.None;
-  rev = OptionPlace.None;
-  ver = OptionPlace.None;
-  severity = OptionU64.None;
-  maturity = OptionU64.None;
-  accuracy = OptionU64.None;
+  id = None;
+  msg = None;
+  logdata = None;
+  rev = None;
+  ver = None;
+  severity = None;
+  maturity = None;
+  accuracy = None;
 }
 
 -- AN INTERVENTION OR NONE
-unfoldable pub intervention_of : HostIntervention → OptionIntervention
+unfoldable pub intervention_of : HostIntervention → Option Intervention
 intervention_of h =
     cond (eqb h.present 1)
-    (OptionIntervention.Some (record {
+    (Some (record {
       status = h.status;
       url = place_of h.url;
       log = place_of h.log;
@@ -68,7 +65,7 @@ intervention_of h =
       drop = flag_of h.drop;
       metadata = metadata_of h.metadata;
     }))
-    OptionIntervention.None
+    None
 
 unfoldable pub host_stop : Intervention → HostIntervention
 host_stop i =
@@ -89,18 +86,18 @@ no_stop =
     record {
       present = 0;
       status = 0;
-      url = host_place OptionPlace.None;
-      log = host_place OptionPlace.None;
-      closing = host_number OptionU64.None;
-      starter = host_number OptionU64.None;
+      url = host_place None;
+      log = host_place None;
+      closing = host_number None;
+      starter = host_number None;
       phase = 0;
       drop = 0;
       metadata = host_metadata no_metadata;
     }
 
-unfoldable pub host_intervention : OptionIntervention → HostIntervention
-host_intervention OptionIntervention.None = no_stop
-host_intervention (OptionIntervention.Some i) = host_stop i
+unfoldable pub host_intervention : Option Intervention → HostIntervention
+host_intervention None = no_stop
+host_intervention (Some i) = host_stop i
 
 -- of an absent one only `present` is looked at
 unfoldable pub intervention_known : HostIntervention → Bool

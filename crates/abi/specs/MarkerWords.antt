@@ -1,5 +1,5 @@
 -- Marker records as one flat list of numbers, three to a record, as the phase call reads them.
-use Rattle.std.specs.Prelude.{ℕ, ◌*◌, cond, List, [], ◌∷◌, ◌++◌, length, take, replicate, ltb}
+use Rattle.std.specs.Prelude.{ℕ, ◌*◌, List, [], ◌∷◌, ◌++◌, length, take, replicate}
 use Rattle.reading.specs.declared.Marker.{Marker}
 use Rattle.reading.specs.Records.{marker_list}
 use Rattle.abi.specs.declared.marker_words.MarkerWords.{MarkerWords}
@@ -20,10 +20,6 @@ marker_words_of ms = record { words = words_of ms; count = length ms }
 -- so many markers, of which none is copied yet
 abbrev pub blank : ℕ → MarkerWords
 blank count = record { words = words_of []; count = count }
-
--- how many of so many markers are copied
-abbrev pub copy_count : ℕ → ℕ
-copy_count count = cond (ltb 257 count) 257 count
 
 -- the records that unpacked numbers stand for: no more than the 257 that are there
 abbrev pub markers_in : MarkerWords → List Marker

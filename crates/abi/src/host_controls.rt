@@ -31,60 +31,57 @@ pub struct HostControls {
     pub positions: [u64; limits::TARGETS],
 }
 
+#[tactic(auto, unfolding(crate::specs::HostControls::known_controls))]
 pub fn is_known_controls(c: HostControls) -> bool
     ensures { result ≡ known_controls c }
 {
     values::are_settings_known(c.mode, c.access, c.processor)
 }
 
-pub fn controls_from_host(h: HostControls) -> Controls
-    ensures { result ≡ controls_from_host h }
-{
-    let mode = values::mode_setting(h.mode);
-    let access = values::access_setting(h.access);
-    let processor = values::processor_setting(h.processor);
-    let starts = h.starts;
-    let ends = h.ends;
-    let phases = h.phases;
-    let positions = h.positions;
-    Controls {
-        settings: Settings {
-            mode,
-            access,
-            processor,
-        },
-        starts,
-        ends,
-        ranges: h.ranges as usize,
-        phases,
-        positions,
-        targets: h.targets as usize,
+impl From<HostControls> for Controls {
+    ghost from_gives = { λ h c. c ≡ controls_from_host h };
+
+    #[tactic(auto, using(crate::proofs::values::Settings::settings_same), unfolding(crate::specs::HostControls::controls_from_host))]
+    fn from(h: HostControls) -> Controls {
+        let starts = h.starts; // locals, here and below: a proof covers no array moved straight into a literal
+        let ends = h.ends;
+        let phases = h.phases;
+        let positions = h.positions;
+        Controls {
+            settings: Settings {
+                mode: values::setting_of(h.mode),
+                access: values::setting_of(h.access),
+                processor: values::setting_of(h.processor),
+            },
+            starts,
+            ends,
+            ranges: h.ranges as usize,
+            phases,
+            positions,
+            targets: h.targets as usize,
+        }
     }
 }
 
-pub fn controls_to_host(c: Controls) -> HostControls
-    ensures { result ≡ controls_to_host c }
-{
-    let settings = c.settings;
-    let mode = settings.mode;
-    let mode = values::mode_setting_number(mode);
-    let access = settings.access;
-    let access = values::access_setting_number(access);
-    let processor = settings.processor;
-    let processor = values::processor_setting_number(processor);
-    let starts = c.starts;
-    let ends = c.ends;
-    let phases = c.phases;
-    let positions = c.positions;
-    HostControls {
-        mode,
-        access,
-        processor,
-        ranges: c.ranges as u64,
-        targets: c.targets as u64,
-        starts,
-        ends,
-        phases,
-        positions,
+impl From<Controls> for HostControls {
+    ghost from_gives = { λ c h. h ≡ controls_to_host c };
+
+    #[tactic(auto, using(crate::proofs::values::Settings::settings_same), unfolding(crate::specs::HostControls::controls_to_host))]
+    fn from(c: Controls) -> HostControls {
+        let starts = c.starts;
+        let ends = c.ends;
+        let phases = c.phases;
+        let positions = c.positions;
+        HostControls {
+            mode: values::setting_number(c.settings.mode),
+            access: values::setting_number(c.settings.access),
+            processor: values::setting_number(c.settings.processor),
+            ranges: c.ranges as u64,
+            targets: c.targets as u64,
+            starts,
+            ends,
+            phases,
+            positions,
+        }
     }
 }

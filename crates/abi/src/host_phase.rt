@@ -3,6 +3,7 @@
 // not known is refused as it is. The parts of a record are those of the modules values, host_controls and host_intervention.
 ghost use Rattle.std.specs.Prelude.{◌≡◌, ◌/◌, take};
 ghost use Rattle.reading.specs.Call.{Call};
+ghost use Rattle.reading.specs.Numbers.{refusal_number};
 ghost use Rattle.refusals.specs.FirstRefusal.{Counted};
 ghost use Rattle.reading.specs.Records.{marker_list, given_of, lent};
 ghost use Rattle.transaction.specs.RunPhase.{answer_without};
@@ -14,7 +15,7 @@ use crate::host_intervention::HostIntervention;
 use crate::marker_words::MarkerWords;
 use crate::{host_controls, host_intervention, marker_words, values};
 use control::fields;
-use reading::{CallSettings, widths};
+use reading::{CallSettings, Refusal, widths};
 use refusals::first;
 use refusals::first::{Counts, Sizes};
 use transaction::types::{Answer, Transaction};
@@ -44,46 +45,42 @@ pub struct HostPhase {
 }
 
 // Whether every number is known.
+#[tactic(auto, unfolding(crate::specs::HostRecord::known))]
 pub fn is_known(h: HostTransaction) -> bool
     ensures { result ≡ known h }
 {
-    if !values::is_flag(h.allowed) {
-        return false;
-    }
-    if !host_controls::is_known_controls(h.controls) {
-        return false;
-    }
-    host_intervention::is_intervention_known(h.intervention)
+    values::is_flag(h.allowed)
+        && host_controls::is_known_controls(h.controls)
+        && host_intervention::is_intervention_known(h.intervention)
 }
 
-pub fn from_host(h: HostTransaction) -> Transaction
-    ensures { result ≡ from_host h }
-{
-    let controls = host_controls::controls_from_host(h.controls);
-    let allowed = values::flag_of(h.allowed);
-    let intervention = host_intervention::intervention_of(h.intervention);
-    Transaction {
-        controls,
-        allowed,
-        intervention,
-        ids: h.ids as usize,
-        entries: h.entries as usize,
+impl From<HostTransaction> for Transaction {
+    ghost from_gives = { λ h t. t ≡ from_host h };
+
+    #[tactic(auto, unfolding(crate::specs::HostRecord::from_host))]
+    fn from(h: HostTransaction) -> Transaction {
+        Transaction {
+            controls: h.controls.into(),
+            allowed: values::flag_of(h.allowed),
+            intervention: h.intervention.into(),
+            ids: h.ids as usize,
+            entries: h.entries as usize,
+        }
     }
 }
 
-pub fn to_host(t: Transaction) -> HostTransaction
-    ensures { result ≡ to_host t }
-{
-    let controls = host_controls::controls_to_host(t.controls);
-    let allowed = values::flag_number(t.allowed);
-    let stop = t.intervention;
-    let intervention = host_intervention::host_intervention(stop);
-    HostTransaction {
-        controls,
-        allowed,
-        intervention,
-        ids: t.ids as u64,
-        entries: t.entries as u64,
+impl From<Transaction> for HostTransaction {
+    ghost from_gives = { λ t h. h ≡ to_host t };
+
+    #[tactic(auto, unfolding(crate::specs::HostRecord::to_host))]
+    fn from(t: Transaction) -> HostTransaction {
+        HostTransaction {
+            controls: t.controls.into(),
+            allowed: values::flag_number(t.allowed),
+            intervention: t.intervention.into(),
+            ids: t.ids as u64,
+            entries: t.entries as u64,
+        }
     }
 }
 
@@ -92,19 +89,14 @@ pub fn to_host(t: Transaction) -> HostTransaction
 fn word_count(count: usize) -> usize
     ensures { result ≡ lent_words count }
 {
-    if marker_words::ROOM < count {
-        return marker_words::NUMBERS;
-    }
-    widths::MARKER * count
+    widths::MARKER * count.min(marker_words::ROOM)
 }
 
 // Those numbers.
 fn lent_words(words: &[u64; marker_words::NUMBERS], count: usize) -> &[u64]
     ensures { result.now ≡ take (lent_words count) words.now }
 {
-    let all = &words[..];
-    let n = word_count(count);
-    &all[..n]
+    &words[..word_count(count)]
 }
 
 // How many records lists of so many numbers have, with the bytes of the text and the outcomes.
@@ -124,11 +116,13 @@ fn counts_of(rules: usize, actions: usize, words: usize, bytes: usize, outcomes:
 fn sizes_of(h: HostTransaction, ids: usize, entries: usize) -> Sizes
     ensures { result ≡ sizes_of h ids entries }
 {
-    let ranges = h.controls.ranges as usize;
-    let targets = h.controls.targets as usize;
-    let bad_controls = fields::is_bad(&h.controls.starts, &h.controls.ends, ranges, targets);
     Sizes {
-        bad_controls,
+        bad_controls: fields::is_bad(
+            &h.controls.starts,
+            &h.controls.ends,
+            h.controls.ranges as usize,
+            h.controls.targets as usize,
+        ),
         ids_used: h.ids as usize,
         entries_used: h.entries as usize,
         ids,
@@ -136,24 +130,22 @@ fn sizes_of(h: HostTransaction, ids: usize, entries: usize) -> Sizes
     }
 }
 
-// The answer to a record with a number that is not known: that is refusal 5, and refusals 1 to 4 go first.
-fn unknown_answer(call: CallSettings, counts: Counts, sizes: Sizes) -> u64
-    ensures { (q : Call) → Counted q call counts sizes → result ≡ unknown_answer q }
+// Why a record with a number that is not known is refused: that is refusal 5, and refusals 1 to 4 go first.
+fn unknown_answer(call: CallSettings, counts: Counts, sizes: Sizes) -> Refusal
+    ensures { (q : Call) → Counted q call counts sizes → refusal_number result ≡ unknown_answer q }
 {
-    let early = first::early_refusal(call, counts, sizes);
-    if early == 0 {
-        return 5;
+    match first::early_refusal(call, counts, sizes) {
+        Ok(()) => Refusal::Record,
+        Err(refusal) => refusal,
     }
-    early
 }
 
 // An answer that leaves the record as it was.
 fn as_lent(answer: u64, h: HostTransaction) -> HostPhase
     ensures { result ≡ record { answer = answer_without answer; transaction = h } }
 {
-    let answer = outcome::unvisited(answer);
     HostPhase {
-        answer,
+        answer: outcome::unvisited(answer),
         transaction: h,
     }
 }
@@ -186,21 +178,26 @@ pub fn host_phase(
             outcomes.len(),
         );
         let sizes = sizes_of(h, ids.len(), entries.len());
-        return as_lent(unknown_answer(call, counts, sizes), h);
+        return as_lent(unknown_answer(call, counts, sizes).number(), h);
     }
-    let t = from_host(h);
     let p = run_phase::run_phase(
-        t, call, rules, actions, words, text, outcomes, ids, entries, journal,
+        h.into(),
+        call,
+        rules,
+        actions,
+        words,
+        text,
+        outcomes,
+        ids,
+        entries,
+        journal,
     );
-    let answer = p.answer;
-    let after = p.transaction;
-    let mut transaction = to_host(after);
-    if answer.visits == 0 {
-        let before = h.intervention;
-        transaction.intervention = before;
+    let mut transaction: HostTransaction = p.transaction.into();
+    if p.answer.visits == 0 {
+        transaction.intervention = h.intervention;
     }
     HostPhase {
-        answer,
+        answer: p.answer,
         transaction,
     }
 }

@@ -2,10 +2,11 @@
 ghost use Rattle.std.specs.Prelude.{◌≡◌};
 ghost use Rattle.reading.specs.Records.{marker_list};
 ghost use Rattle.abi.specs.MarkerWords.{markers_in};
-ghost use Rattle.abi.specs.MarkerLookup.{lookup_answer, lookup, answered};
+ghost use Rattle.reading.specs.Numbers.{answer_number};
+ghost use Rattle.abi.specs.MarkerLookup.{lookup_answer, lookup, answered_by};
 
 use crate::marker_words::MarkerWords;
-use reading::{OptionU64, limits, widths};
+use reading::{Refusal, limits, widths};
 use refusals::marker_checks;
 use ruleset::markers;
 use text::high_bytes;
@@ -25,66 +26,55 @@ pub struct HostMarker {
     pub position: u64,
 }
 
-// The first of the refusals 2, 5 and 6 that applies, else 0.
-fn refusal(markers: &[u64], rules: u64, text: &[u8]) -> u64
-    ensures { result ≡ lookup_answer (marker_list markers.now) rules text.now }
+// The first of the refusals 2, 5 and 6 that applies, or none.
+fn refusal(markers: &[u64], rules: u64, text: &[u8]) -> Result<(), Refusal>
+    ensures { answer_number result ≡ lookup_answer (marker_list markers.now) rules text.now }
 {
-    if MOST_RULES < rules {
-        return 2;
-    }
-    if limits::MARKERS < markers.len() / widths::MARKER {
-        return 2;
-    }
-    if limits::TEXT_BYTES < text.len() {
-        return 2;
+    if MOST_RULES < rules
+        || limits::MARKERS < markers.len() / widths::MARKER
+        || limits::TEXT_BYTES < text.len()
+    {
+        return Err(Refusal::TooLarge);
     }
     if marker_checks::any_bad_marker(markers, text.len(), rules as usize) {
-        return 5;
+        return Err(Refusal::Record);
     }
     if high_bytes::has_high_byte(text) {
-        return 6;
+        return Err(Refusal::HighByte);
     }
-    0
+    Ok(())
 }
 
-// The answer with a position or none.
-fn with_position(answer: u64, found: OptionU64) -> HostMarker
-    ensures { result ≡ answered answer found }
+// The answer as numbers.
+fn with_position(found: Result<Option<u64>, Refusal>) -> HostMarker
+    ensures { result ≡ answered_by found }
 {
-    let OptionU64::Some(position) = found else {
-        return HostMarker {
-            answer,
-            present: 0,
-            position: 0,
-        };
+    let (answer, position) = match found {
+        Ok(position) => (0, position),
+        Err(refusal) => (refusal.number(), None),
     };
     HostMarker {
         answer,
-        present: 1,
-        position,
+        present: position.is_some() as u64,
+        position: position.unwrap_or(0),
     }
 }
 
 // The question on number slices: three numbers a marker.
-fn look_up(markers: &[u64], rules: u64, text: &[u8], name: &[u8]) -> HostMarker
-    ensures { result ≡ lookup (marker_list markers.now) rules text.now name.now }
+fn look_up(markers: &[u64], rules: u64, text: &[u8], name: &[u8]) -> Result<Option<u64>, Refusal>
+    ensures { answered_by result ≡ lookup (marker_list markers.now) rules text.now name.now }
 {
-    let answer = refusal(markers, rules, text);
-    if answer != 0 {
-        return with_position(answer, OptionU64::None);
-    }
-    with_position(answer, markers::marker_named(markers, text, name))
+    refusal(markers, rules, text)?;
+    Ok(markers::marker_named(markers, text, name))
 }
 
 // The question on unpacked markers. More than 256 are refused before their numbers are looked at, which may not be all there.
 pub fn look_up_words(c: MarkerWords, rules: u64, text: &[u8], name: &[u8]) -> HostMarker
     ensures { result ≡ lookup (markers_in c) rules text.now name.now }
 {
-    let count = c.count;
-    if limits::MARKERS < count {
-        return with_position(2, OptionU64::None);
+    if limits::MARKERS < c.count {
+        return with_position(Err(Refusal::TooLarge));
     }
-    let words = c.words;
-    let n = widths::MARKER * count;
-    look_up(&words[..n], rules, text, name)
+    let n = widths::MARKER * c.count;
+    with_position(look_up(&c.words[..n], rules, text, name))
 }

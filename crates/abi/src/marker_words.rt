@@ -1,6 +1,6 @@
 // The marker records that a host lends, as the numbers that the phase call and the question for a marker read.
 ghost use Rattle.std.specs.Prelude.{◌≡◌};
-ghost use Rattle.abi.specs.MarkerWords.{marker_words_of, blank, copy_count};
+ghost use Rattle.abi.specs.MarkerWords.{marker_words_of, blank};
 
 use reading::{Marker, limits, widths};
 
@@ -9,7 +9,8 @@ pub const ROOM: usize = limits::MARKERS + 1;
 
 pub const NUMBERS: usize = widths::MARKER * ROOM;
 
-// Three numbers a marker, of as many markers as there is room for, and zeros after them; and how many markers there are.
+// Three numbers a marker, of as many markers as there is room for, and zeros after them; and how many markers there are. An array with
+// its count: there is no heap.
 #[derive(Clone, Copy)]
 pub struct MarkerWords {
     pub words: [u64; NUMBERS],
@@ -26,31 +27,17 @@ fn zeros(count: usize) -> MarkerWords
     }
 }
 
-// How many of so many markers are copied.
-fn copy_count(count: usize) -> usize
-    ensures { result ≡ copy_count count }
-{
-    if ROOM < count {
-        return ROOM;
-    }
-    count
-}
-
 // The records as numbers. They are copied into the answer's array one by one: passing it on by value would copy it for each marker.
 pub fn unpack(markers: &[Marker]) -> MarkerWords
     ensures { result ≡ marker_words_of markers.now }
 {
-    let count = markers.len();
-    let mut c = zeros(count);
-    let n = copy_count(count);
-    let mut i = 0;
-    while i < n {
+    let mut c = zeros(markers.len());
+    for i in 0..markers.len().min(ROOM) {
         let m = markers[i];
         let k = widths::MARKER * i;
         c.words[k] = m.name.start;
         c.words[k + 1] = m.name.len;
         c.words[k + 2] = m.position;
-        i += 1;
     }
     c
 }

@@ -1,19 +1,18 @@
 // A setting, a number, a flag and a place as a host lends them: numbers alone, for no enum crosses to C or Rust. Each function here
 // turns one of them into what has enums, or back, or says whether its numbers are known.
-ghost use Rattle.std.specs.Prelude.{◌≡◌};
-ghost use Rattle.reading.specs.Numbers.{mode_number, access_number, processor_number};
-ghost use Rattle.reading.specs.Numbers.{mode_setting_number, access_setting_number, processor_setting_number};
-ghost use Rattle.abi.specs.HostValues.{mode_setting, access_setting, processor_setting, settings_known, flag_of, flag_number, flag_known};
+ghost use Rattle.std.specs.Prelude.{◌≡◌, ◌<◌, ℕ};
+ghost use Rattle.reading.specs.Numbers.{mode_number, mode_of_number, access_number, processor_number};
+ghost use Rattle.abi.specs.Settings.{setting_number, setting_of, access_of_number, processor_of_number};
+ghost use Rattle.abi.specs.Settings.{mode_few, mode_back, access_few, access_back, processor_few, processor_back};
+ghost use Rattle.abi.specs.HostValues.{settings_known, flag_of, flag_number, flag_known};
 ghost use Rattle.abi.specs.HostValues.{number_of, host_number, number_known, place_of, host_place, place_known};
 
-use reading::{
-    AccessSetting, BodyAccess, BodyProcessor, ModeSetting, OptionPlace, OptionU64, Place,
-    ProcessorSetting, RuleEngineMode,
-};
+use control::fields;
+use reading::{BodyAccess, BodyProcessor, Place, RuleEngineMode};
 
 // A number or none: `present` is 1 or 0.
 #[repr(C)]
-#[derive(Clone, Copy)]
+#[derive(Clone, Copy, Default)]
 pub struct HostNumber {
     // 1 where there is a number, else 0.
     pub present: u64,
@@ -22,7 +21,7 @@ pub struct HostNumber {
 
 // A place or none.
 #[repr(C)]
-#[derive(Clone, Copy)]
+#[derive(Clone, Copy, Default)]
 pub struct HostPlace {
     // 1 where there is a place, else 0.
     pub present: u64,
@@ -33,108 +32,106 @@ pub struct HostPlace {
 
 // THE SETTINGS
 
-// A setting is 0 where it is not set, else one more than the number of its value. The functions `.._setting` read such a number,
-// every one above the last as the last, `.._setting_number` give it, and `.._number` give that of a value.
+// An enum whose values are numbered from 0 on, in the order in which it declares them.
+pub trait Numbered: Sized {
+    // The number of a value.
+    ghost number: { Self → ℕ };
 
-pub fn mode_setting(n: u64) -> ModeSetting
-    ensures { result ≡ mode_setting n }
-{
-    if n == 0 {
-        return ModeSetting::Unset;
-    }
-    if n == 1 {
-        return ModeSetting::Set(RuleEngineMode::On);
-    }
-    if n == 2 {
-        return ModeSetting::Set(RuleEngineMode::DetectionOnly);
-    }
-    ModeSetting::Set(RuleEngineMode::Off)
+    // The value of a number. Every one above the last is read as the last.
+    ghost of_number: { ℕ → Self };
+
+    fn number(self) -> u64
+        ensures { result ≡ number self };
+
+    fn of_number(n: u64) -> Self
+        ensures { result ≡ of_number n };
+
+    // There are no more than four values.
+    ghost few: { (x : Self) → number x < 4 };
+
+    // The number of a value stands for it.
+    ghost back: { (x : Self) → of_number (number x) ≡ x };
 }
 
-pub fn mode_number(m: RuleEngineMode) -> u64
-    ensures { result ≡ mode_number m }
-{
-    match m {
-        RuleEngineMode::On => 0,
-        RuleEngineMode::DetectionOnly => 1,
-        RuleEngineMode::Off => 2,
+impl Numbered for RuleEngineMode {
+    ghost number = { mode_number };
+
+    ghost of_number = { mode_of_number };
+
+    ghost few = { mode_few };
+
+    ghost back = { mode_back };
+
+    fn number(self) -> u64 {
+        self as u64 // 0, 1 or 2
+    }
+
+    fn of_number(n: u64) -> RuleEngineMode {
+        fields::mode_of_number(n)
     }
 }
 
-pub fn mode_setting_number(setting: ModeSetting) -> u64
-    ensures { result ≡ mode_setting_number setting }
+impl Numbered for BodyAccess {
+    ghost number = { access_number };
+
+    ghost of_number = { access_of_number };
+
+    ghost few = { access_few };
+
+    ghost back = { access_back };
+
+    fn number(self) -> u64 {
+        self as u64 // 0 or 1
+    }
+
+    fn of_number(n: u64) -> BodyAccess {
+        match n {
+            0 => BodyAccess::On,
+            _ => BodyAccess::Off,
+        }
+    }
+}
+
+impl Numbered for BodyProcessor {
+    ghost number = { processor_number };
+
+    ghost of_number = { processor_of_number };
+
+    ghost few = { processor_few };
+
+    ghost back = { processor_back };
+
+    fn number(self) -> u64 {
+        self as u64 // 0 to 3
+    }
+
+    fn of_number(n: u64) -> BodyProcessor {
+        match n {
+            0 => BodyProcessor::Urlencoded,
+            1 => BodyProcessor::Multipart,
+            2 => BodyProcessor::Json,
+            _ => BodyProcessor::Xml,
+        }
+    }
+}
+
+// The number of a setting: 0 where it is not set, else one more than its value's.
+pub fn setting_number<T: Numbered>(setting: Option<T>) -> u64
+    ensures { result ≡ setting_number T.number setting }
 {
     match setting {
-        ModeSetting::Unset => 0,
-        ModeSetting::Set(m) => 1 + mode_number(m),
+        None => 0,
+        Some(value) => 1 + value.number(),
     }
 }
 
-pub fn access_setting(n: u64) -> AccessSetting
-    ensures { result ≡ access_setting n }
+// The setting that a number stands for.
+pub fn setting_of<T: Numbered>(n: u64) -> Option<T>
+    ensures { result ≡ setting_of T.of_number n }
 {
-    if n == 0 {
-        return AccessSetting::Unset;
-    }
-    if n == 1 {
-        return AccessSetting::Set(BodyAccess::On);
-    }
-    AccessSetting::Set(BodyAccess::Off)
-}
-
-pub fn access_number(a: BodyAccess) -> u64
-    ensures { result ≡ access_number a }
-{
-    match a {
-        BodyAccess::On => 0,
-        BodyAccess::Off => 1,
-    }
-}
-
-pub fn access_setting_number(setting: AccessSetting) -> u64
-    ensures { result ≡ access_setting_number setting }
-{
-    match setting {
-        AccessSetting::Unset => 0,
-        AccessSetting::Set(a) => 1 + access_number(a),
-    }
-}
-
-pub fn processor_setting(n: u64) -> ProcessorSetting
-    ensures { result ≡ processor_setting n }
-{
-    if n == 0 {
-        return ProcessorSetting::Unset;
-    }
-    if n == 1 {
-        return ProcessorSetting::Set(BodyProcessor::Urlencoded);
-    }
-    if n == 2 {
-        return ProcessorSetting::Set(BodyProcessor::Multipart);
-    }
-    if n == 3 {
-        return ProcessorSetting::Set(BodyProcessor::Json);
-    }
-    ProcessorSetting::Set(BodyProcessor::Xml)
-}
-
-pub fn processor_number(p: BodyProcessor) -> u64
-    ensures { result ≡ processor_number p }
-{
-    match p {
-        BodyProcessor::Urlencoded => 0,
-        BodyProcessor::Multipart => 1,
-        BodyProcessor::Json => 2,
-        BodyProcessor::Xml => 3,
-    }
-}
-
-pub fn processor_setting_number(setting: ProcessorSetting) -> u64
-    ensures { result ≡ processor_setting_number setting }
-{
-    match setting {
-        ProcessorSetting::Unset => 0,
-        ProcessorSetting::Set(p) => 1 + processor_number(p),
+    match n {
+        0 => None,
+        _ => Some(T::of_number(n - 1)),
     }
 }
 
@@ -142,13 +139,7 @@ pub fn processor_setting_number(setting: ProcessorSetting) -> u64
 pub fn are_settings_known(mode: u64, access: u64, processor: u64) -> bool
     ensures { result ≡ settings_known mode access processor }
 {
-    if 3 < mode {
-        return false;
-    }
-    if 2 < access {
-        return false;
-    }
-    processor <= 4
+    mode <= 3 && access <= 2 && processor <= 4
 }
 
 // NUMBERS AND PLACES, OR NONE
@@ -169,49 +160,44 @@ pub fn is_flag(n: u64) -> bool
 pub fn flag_number(b: bool) -> u64
     ensures { result ≡ flag_number b }
 {
-    if b {
-        return 1;
-    }
-    0
+    b as u64
 }
 
-pub fn option_number(h: HostNumber) -> OptionU64
-    ensures { result ≡ number_of h }
-{
-    if h.present == 1 {
-        return OptionU64::Some(h.value);
-    }
-    OptionU64::None
-}
+impl From<HostNumber> for Option<u64> {
+    ghost from_gives = { λ h o. o ≡ number_of h };
 
-pub fn host_number(o: OptionU64) -> HostNumber
-    ensures { result ≡ host_number o }
-{
-    match o {
-        OptionU64::None => HostNumber {
-            present: 0,
-            value: 0,
-        },
-        OptionU64::Some(value) => HostNumber { present: 1, value },
+    fn from(h: HostNumber) -> Option<u64> {
+        (h.present == 1).then_some(h.value)
     }
 }
 
+impl From<Option<u64>> for HostNumber {
+    ghost from_gives = { λ o h. h ≡ host_number o };
+
+    fn from(o: Option<u64>) -> HostNumber {
+        match o {
+            None => HostNumber::default(),
+            Some(value) => HostNumber { present: 1, value },
+        }
+    }
+}
+
+// Of a number and of a place only the flag is looked at: a function each, for they are structs of their own.
 pub fn is_number_known(h: HostNumber) -> bool
     ensures { result ≡ number_known h }
 {
     h.present <= 1 // with any value
 }
 
-pub fn option_place(h: HostPlace) -> OptionPlace
-    ensures { result ≡ place_of h }
-{
-    if h.present == 1 {
-        return OptionPlace::Some(Place {
+impl From<HostPlace> for Option<Place> {
+    ghost from_gives = { λ h o. o ≡ place_of h };
+
+    fn from(h: HostPlace) -> Option<Place> {
+        (h.present == 1).then_some(Place {
             phase: h.phase,
             position: h.position,
-        });
+        })
     }
-    OptionPlace::None
 }
 
 pub fn is_place_known(h: HostPlace) -> bool
@@ -220,19 +206,17 @@ pub fn is_place_known(h: HostPlace) -> bool
     h.present <= 1 // with any phase and position
 }
 
-pub fn host_place(o: OptionPlace) -> HostPlace
-    ensures { result ≡ host_place o }
-{
-    match o {
-        OptionPlace::None => HostPlace {
-            present: 0,
-            phase: 0,
-            position: 0,
-        },
-        OptionPlace::Some(at) => HostPlace {
-            present: 1,
-            phase: at.phase,
-            position: at.position,
-        },
+impl From<Option<Place>> for HostPlace {
+    ghost from_gives = { λ o h. h ≡ host_place o };
+
+    fn from(o: Option<Place>) -> HostPlace {
+        match o {
+            None => HostPlace::default(),
+            Some(at) => HostPlace {
+                present: 1,
+                phase: at.phase,
+                position: at.position,
+            },
+        }
     }
 }

@@ -1,8 +1,7 @@
 -- How the last action of each sort is kept: a list of marks, one to a slot. Only private functions cite this.
-use Rattle.std.specs.Prelude.{ℕ, zero, suc, cond, List, get_or, leb, eqb}
-use Rattle.std.proofs.Math.Option.{Option, some, none}
+use Rattle.std.specs.Prelude.{ℕ, zero, suc, cond, List, get_or, leb, eqb, Option, Some, None}
+use Rattle.reading.specs.declared.Place.{Place}
 use Rattle.reading.specs.declared.Action.{Action}
-use Rattle.reading.specs.declared.OptionPlace.{OptionPlace}
 use Rattle.reading.specs.declared.RuleMetadata.{RuleMetadata}
 use Rattle.reading.specs.Actions.{Placed, number_in}
 use Rattle.reading.specs.Walk.{no_action}
@@ -21,13 +20,13 @@ placed_at actions position = record { position = position; action = get_or actio
 
 -- the action that a mark stands for: 0 is none, else the mark is one more than the position
 abbrev pub marked : List Action → ℕ → Option Placed
-marked actions zero = none
-marked actions (suc position) = some (placed_at actions position)
+marked actions zero = None
+marked actions (suc position) = Some (placed_at actions position)
 
 -- the place that a mark stands for
-abbrev pub marked_place : ℕ → ℕ → OptionPlace
-marked_place phase zero = OptionPlace.None
-marked_place phase (suc position) = OptionPlace.Some (record { phase = phase; position = position })
+abbrev pub marked_place : ℕ → ℕ → Option Place
+marked_place phase zero = None
+marked_place phase (suc position) = Some (record { phase = phase; position = position })
 
 -- the metadata that a list of marks stands for
 abbrev pub marked_metadata : List Action → ℕ → List ℕ → RuleMetadata

@@ -1,21 +1,18 @@
 -- What the code of an action sets.
-use Rattle.std.specs.Prelude.{ℕ, cond, eqb}
+use Rattle.std.specs.Prelude.{ℕ, cond, eqb, Some}
 use Rattle.reading.specs.declared.RuleEngineMode.{RuleEngineMode}
 use Rattle.reading.specs.declared.BodyAccess.{BodyAccess}
 use Rattle.reading.specs.declared.BodyProcessor.{BodyProcessor}
-use Rattle.reading.specs.declared.ModeSetting.{ModeSetting}
-use Rattle.reading.specs.declared.AccessSetting.{AccessSetting}
-use Rattle.reading.specs.declared.ProcessorSetting.{ProcessorSetting}
 use Rattle.control.specs.declared.state.Settings.{Settings}
 
 abbrev pub mode_set : Settings → RuleEngineMode → Settings
-mode_set s m = record { mode = ModeSetting.Set m; access = s.access; processor = s.processor }
+mode_set s m = record { mode = Some m; access = s.access; processor = s.processor }
 
 abbrev pub access_set : Settings → BodyAccess → Settings
-access_set s a = record { mode = s.mode; access = AccessSetting.Set a; processor = s.processor }
+access_set s a = record { mode = s.mode; access = Some a; processor = s.processor }
 
 abbrev pub processor_set : Settings → BodyProcessor → Settings
-processor_set s p = record { mode = s.mode; access = s.access; processor = ProcessorSetting.Set p }
+processor_set s p = record { mode = s.mode; access = s.access; processor = Some p }
 
 -- the settings after a code; those below 8 and from 17 on leave them
 unfoldable pub settings_after : ℕ → Settings → Settings

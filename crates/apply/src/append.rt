@@ -7,13 +7,12 @@ ghost use Rattle.apply.specs.Append.{TargetAdded, Fitting, RangesAdded};
 
 use control::ranges;
 use control::state::Settings;
-use ctl::range_count::RangeCount;
 use ctl::{id_ranges, range_count};
 use reading::{Place, limits};
 use text::trim;
 
-// What of the controls is passed by value: their settings, and how many places of their arrays are in use. The four arrays
-// are lent beside it, so that nothing of them is copied.
+// What of the controls is passed by value: their settings, and how many places of their arrays are in use. The arrays are
+// lent beside it, so that nothing of them is copied.
 #[derive(Clone, Copy)]
 pub struct ControlCounts {
     pub settings: Settings,
@@ -23,31 +22,30 @@ pub struct ControlCounts {
     pub added: bool,
 }
 
+// The arrays of the controls: the starts and the ends of ranges, and the phases and the positions of targets.
+#[derive(Clone, Copy)]
+pub struct ControlArrays {
+    pub starts: [u64; limits::RANGES],
+    pub ends: [u64; limits::RANGES],
+    pub phases: [u64; limits::TARGETS],
+    pub positions: [u64; limits::TARGETS],
+}
+
 // One target at the end, where no limit refuses it.
-pub fn add_target(
-    h: ControlCounts,
-    at: Place,
-    phases: &mut [u64; limits::TARGETS],
-    positions: &mut [u64; limits::TARGETS],
-) -> ControlCounts
-    ensures { TargetAdded h at phases.old positions.old result phases.new positions.new }
+pub fn add_target(h: ControlCounts, at: Place, arrays: &mut ControlArrays) -> ControlCounts
+    ensures added { TargetAdded h at arrays.old.phases arrays.old.positions result arrays.new.phases arrays.new.positions }
+    ensures starts_kept { arrays.new.starts ≡ arrays.old.starts }
+    ensures ends_kept { arrays.new.ends ≡ arrays.old.ends }
 {
     let n = h.targets;
     if limits::TARGETS <= n {
         return h;
     }
-    // written as slices: the proof is told an array's length only where it becomes one
-    let phase_list = &mut phases[..];
-    let position_list = &mut positions[..];
-    phase_list[n] = at.phase;
-    position_list[n] = at.position;
-    let settings = h.settings;
-    let ranges = h.ranges;
+    arrays.phases[n] = at.phase;
+    arrays.positions[n] = at.position;
     ControlCounts {
-        settings,
-        ranges,
         targets: n + 1,
-        added: h.added,
+        ..h
     }
 }
 
@@ -65,48 +63,31 @@ fn write_after(value: &[u8], used: usize, starts: &mut [u64], ends: &mut [u64])
 fn fitting(value: &[u8], used: usize) -> usize
     ensures { Fitting value.now used result }
 {
-    let RangeCount::Ranges(n) = range_count::count_ranges(value) else {
-        return 0;
-    };
-    if limits::RANGES < used {
-        return 0;
+    match range_count::count_ranges(value) {
+        Some(n) if n <= limits::RANGES.saturating_sub(used) => n,
+        _ => 0,
     }
-    if limits::RANGES - used < n {
-        return 0;
-    }
-    n
 }
 
 // The ranges of a value merged in, all or none. The first addition of a call makes every place after the ranges in use 0; later ones find
 // them so, and merging keeps it.
-pub fn add_ranges(
-    h: ControlCounts,
-    value: &[u8],
-    starts: &mut [u64; limits::RANGES],
-    ends: &mut [u64; limits::RANGES],
-) -> ControlCounts
-    ensures { RangesAdded h value.now starts.old ends.old result starts.new ends.new }
+pub fn add_ranges(h: ControlCounts, value: &[u8], arrays: &mut ControlArrays) -> ControlCounts
+    ensures added { RangesAdded h value.now arrays.old.starts arrays.old.ends result arrays.new.starts arrays.new.ends }
+    ensures phases_kept { arrays.new.phases ≡ arrays.old.phases }
+    ensures positions_kept { arrays.new.positions ≡ arrays.old.positions }
 {
     let used = h.ranges;
-    ranges::clear_once(h.added, starts, used);
-    ranges::clear_once(h.added, ends, used);
-    let settings = h.settings;
-    let targets = h.targets;
+    ranges::clear_once(h.added, &mut arrays.starts, used);
+    ranges::clear_once(h.added, &mut arrays.ends, used);
     let v = trim::trim(value);
     let n = fitting(v, used);
     if n == 0 {
-        return ControlCounts {
-            settings,
-            ranges: used,
-            targets,
-            added: true,
-        };
+        return ControlCounts { added: true, ..h };
     }
-    write_after(v, used, starts, ends);
+    write_after(v, used, &mut arrays.starts, &mut arrays.ends);
     ControlCounts {
-        settings,
-        ranges: ranges::merge_after(starts, ends, used, used + n),
-        targets,
+        ranges: ranges::merge_after(&mut arrays.starts, &mut arrays.ends, used, used + n),
         added: true,
+        ..h
     }
 }

@@ -14,13 +14,7 @@ use ruleset::rules;
 pub fn codes_end(n: usize, first: usize, count: usize) -> usize
     ensures { result ≡ first + min count (n - first) }
 {
-    if n <= first {
-        return first;
-    }
-    if n - first <= count {
-        return n;
-    }
-    first + count
+    first + count.min(n.saturating_sub(first))
 }
 
 // Whether a rule has an action that changes the controls.
@@ -29,24 +23,14 @@ fn rule_changes(rule: Rule, codes: &[u16]) -> bool
 {
     let first = rule.first as usize;
     let end = codes_end(codes.len(), first, rule.count as usize);
-    let mut i = first;
-    while i < end {
-        if codes::LAST_REASON < codes[i] {
-            return true;
-        }
-        i += 1;
-    }
-    false
+    (first..end).any(|i| codes::LAST_REASON < codes[i])
 }
 
 // Whether a journal entry is of a member, and the member's rule has such an action.
 fn entry_changes(index: u64, verdict: u64, rules: &[u64], codes: &[u16]) -> bool
     ensures { result ≡ (eqb verdict 1 && rule_changes codes.now (get_or (rule_list rules.now) index no_rule)) }
 {
-    if verdict != 1 {
-        return false;
-    }
-    rule_changes(rules::rule_at(rules, index as usize), codes)
+    verdict == 1 && rule_changes(rules::rule_at(rules, index as usize), codes)
 }
 
 // Whether a closed unit has a member with an action that changes the controls.
@@ -54,17 +38,8 @@ pub fn changes(entries: &[u64], rules: &[u64], codes: &[u16]) -> bool
     ensures { result ≡ unit_changes codes.now (rule_list rules.now) (matched_in (journal_list entries.now)) }
 {
     let n = entries.len() / widths::JOURNAL_ENTRY;
-    let mut i = 0;
-    while i < n {
-        if entry_changes(
-            entries[widths::JOURNAL_ENTRY * i],
-            entries[widths::JOURNAL_ENTRY * i + 1],
-            rules,
-            codes,
-        ) {
-            return true;
-        }
-        i += 1;
-    }
-    false
+    (0..n).any(|i| {
+        let at = widths::JOURNAL_ENTRY * i;
+        entry_changes(entries[at], entries[at + 1], rules, codes)
+    })
 }

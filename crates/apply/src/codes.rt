@@ -1,5 +1,5 @@
 // What each action does to the controls, as one small number. The text of a ctl action is read once in a call, for this.
-ghost use Rattle.std.specs.Prelude.{◌≡◌, not, ◌&&◌, eqb, min, length, take, get_or};
+ghost use Rattle.std.specs.Prelude.{◌≡◌, not, ◌&&◌, eqb, length, take, get_or};
 ghost use Rattle.reading.specs.Lists.{any, over};
 ghost use Rattle.reading.specs.Records.{action_list};
 ghost use Rattle.reading.specs.Walk.{no_action};
@@ -13,7 +13,7 @@ use reading::{
 use text::span;
 
 // The codes. An action that is no ctl has 0, and an unsupported directive the number of its reason: codes up to `LAST_REASON` change
-// nothing. One of n ranges has n more than `RANGES`, and no more than `MANY_RANGES`: more ranges than a transaction may hold are
+// nothing. One of n ranges has n more than `RANGES`, and no more than `TOO_MANY` more: more ranges than a transaction may hold are
 // refused wherever a rule has the action.
 pub const LAST_REASON: u16 = 7;
 
@@ -40,8 +40,6 @@ pub const TARGET: u16 = 17;
 pub const RANGES: u16 = 18;
 
 const TOO_MANY: usize = limits::RANGES + 1;
-
-const MANY_RANGES: u16 = 275;
 
 fn mode_code(mode: RuleEngineMode) -> u16
     ensures { result ≡ code_of (CtlDirective.RuleEngine mode) }
@@ -77,10 +75,7 @@ fn processor_code(processor: BodyProcessor) -> u16
 fn ranges_code(n: usize) -> u16
     ensures { result ≡ code_of (CtlDirective.RuleRemoveById n) }
 {
-    if TOO_MANY <= n {
-        return MANY_RANGES;
-    }
-    n as u16 + RANGES
+    RANGES + n.min(TOO_MANY) as u16
 }
 
 // The code of a directive.
@@ -105,16 +100,11 @@ fn is_again(actions: &[u64], last: usize, last_code: u16, a: Action) -> bool
         return false;
     }
     let b = record::action_at(actions, last);
-    if b.text.start != a.text.start {
-        return false;
-    }
-    if b.text.len != a.text.len {
-        return false;
-    }
-    if b.value.start != a.value.start {
-        return false;
-    }
-    b.value.len == a.value.len
+    // by the four numbers, as `same_texts` names them
+    b.text.start == a.text.start
+        && b.text.len == a.text.len
+        && b.value.start == a.value.start
+        && b.value.len == a.value.len
 }
 
 // The code of the action at an index. Only the text of a ctl action (19) is read, and not where it is that of the last one read, whose
@@ -135,24 +125,11 @@ fn code_at(actions: &[u64], text: &[u8], index: usize, last: usize, last_code: u
     code_of(directive::parse(name, value))
 }
 
-// The smaller of two numbers.
-fn smaller(a: usize, b: usize) -> usize
-    ensures { result ≡ min a b }
-{
-    if a <= b {
-        return a;
-    }
-    b
-}
-
 // Whether a code is the reason of an unsupported directive.
 pub fn is_reason(code: u16) -> bool
     ensures { result ≡ is_reason code }
 {
-    if code == 0 {
-        return false;
-    }
-    code <= LAST_REASON
+    code != 0 && code <= LAST_REASON
 }
 
 // Writes the codes of the actions from the start of a lent list, as many as fit, and answers whether one of them is unsupported.
@@ -160,22 +137,18 @@ pub fn write_codes(actions: &[u64], text: &[u8], codes: &mut [u16]) -> bool
     ensures value { result ≡ any is_reason (take (length codes.old) (codes_of text.now (action_list actions.now))) }
     ensures codes_after { codes.new ≡ over codes.old (take (length codes.old) (codes_of text.now (action_list actions.now))) }
 {
-    let n = smaller(codes.len(), actions.len() / widths::ACTION);
+    let n = codes.len().min(actions.len() / widths::ACTION);
     let mut unsupported = false;
     let mut last = 0;
-    let mut last_code = 0u16;
-    let mut i = 0;
-    while i < n {
+    let mut last_code = 0;
+    for i in 0..n {
         let code = code_at(actions, text, i, last, last_code);
         codes[i] = code;
         if code != 0 {
             last = i;
             last_code = code;
         }
-        if is_reason(code) {
-            unsupported = true;
-        }
-        i += 1;
+        unsupported |= is_reason(code);
     }
     unsupported
 }

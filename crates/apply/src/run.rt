@@ -11,10 +11,10 @@ ghost use Rattle.apply.specs.UnitCodes.{applied_code, rule_by_codes, unit_by_cod
 ghost use Rattle.apply.specs.UnitChanges.{rule_adds, unit_adds};
 ghost use Rattle.apply.specs.ApplyUnit.{Turned};
 
-use crate::append::ControlCounts;
+use crate::append::{ControlArrays, ControlCounts};
 use crate::{append, changes, codes, settings};
 use actions::record;
-use reading::{Place, Rule, limits, widths};
+use reading::{Place, Rule, widths};
 use ruleset::rules;
 use text::span;
 
@@ -27,38 +27,32 @@ fn apply(
     actions: &[u64],
     text: &[u8],
     phase: u64,
-    starts: &mut [u64; limits::RANGES],
-    ends: &mut [u64; limits::RANGES],
-    phases: &mut [u64; limits::TARGETS],
-    positions: &mut [u64; limits::TARGETS],
+    arrays: &mut ControlArrays,
 ) -> ControlCounts
-    ensures { Turned (ltb 17 code) h starts.old ends.old phases.old positions.old
-        result starts.new ends.new phases.new positions.new
+    ensures { Turned (ltb 17 code) h arrays.old.starts arrays.old.ends arrays.old.phases arrays.old.positions
+        result arrays.new.starts arrays.new.ends arrays.new.phases arrays.new.positions
         (applied_code (record { phase = phase; position = i })
         (part_of text.now (get_or (action_list actions.now) i no_action).value) code
-        (controls_of (struct_of h starts.old ends.old phases.old positions.old))) }
+        (controls_of (struct_of h arrays.old.starts arrays.old.ends arrays.old.phases arrays.old.positions))) }
 {
-    if code <= codes::XML {
-        let settings = settings::set_by_code(h.settings, code);
-        let ranges = h.ranges;
-        let targets = h.targets;
-        return ControlCounts {
-            settings,
-            ranges,
-            targets,
-            added: h.added,
-        };
+    match code {
+        0..=codes::XML => ControlCounts {
+            settings: settings::set_by_code(h.settings, code),
+            ..h
+        },
+        codes::TARGET => {
+            let at = Place {
+                phase,
+                position: i as u64,
+            };
+            append::add_target(h, at, arrays)
+        }
+        _ => {
+            let action = record::action_at(actions, i);
+            let value = span::part_of(text, action.value);
+            append::add_ranges(h, value, arrays)
+        }
     }
-    if code == codes::TARGET {
-        let at = Place {
-            phase,
-            position: i as u64,
-        };
-        return append::add_target(h, at, phases, positions);
-    }
-    let action = record::action_at(actions, i);
-    let value = span::part_of(text, action.value);
-    append::add_ranges(h, value, starts, ends)
 }
 
 // The controls after a rule's actions.
@@ -69,26 +63,18 @@ fn rule_controls(
     text: &[u8],
     codes: &[u16],
     phase: u64,
-    starts: &mut [u64; limits::RANGES],
-    ends: &mut [u64; limits::RANGES],
-    phases: &mut [u64; limits::TARGETS],
-    positions: &mut [u64; limits::TARGETS],
+    arrays: &mut ControlArrays,
 ) -> ControlCounts
-    ensures { Turned (rule_adds codes.now rule) h starts.old ends.old phases.old positions.old
-        result starts.new ends.new phases.new positions.new
+    ensures { Turned (rule_adds codes.now rule) h arrays.old.starts arrays.old.ends arrays.old.phases arrays.old.positions
+        result arrays.new.starts arrays.new.ends arrays.new.phases arrays.new.positions
         (rule_by_codes (record { phase = phase; text = text.now; actions = action_list actions.now }) codes.now rule
-        (controls_of (struct_of h starts.old ends.old phases.old positions.old))) }
+        (controls_of (struct_of h arrays.old.starts arrays.old.ends arrays.old.phases arrays.old.positions))) }
 {
     let first = rule.first as usize;
     let end = changes::codes_end(codes.len(), first, rule.count as usize);
     let mut r = h;
-    let mut i = first;
-    while i < end {
-        let code = codes[i];
-        r = apply(
-            r, code, i, actions, text, phase, starts, ends, phases, positions,
-        );
-        i += 1;
+    for i in first..end {
+        r = apply(r, codes[i], i, actions, text, phase, arrays);
     }
     r
 }
@@ -103,24 +89,20 @@ fn entry_controls(
     text: &[u8],
     codes: &[u16],
     phase: u64,
-    starts: &mut [u64; limits::RANGES],
-    ends: &mut [u64; limits::RANGES],
-    phases: &mut [u64; limits::TARGETS],
-    positions: &mut [u64; limits::TARGETS],
+    arrays: &mut ControlArrays,
 ) -> ControlCounts
-    ensures { Turned (unit_adds codes.now (rule_list rules.now) (keep (eqb verdict 1) (index ∷ []))) h starts.old ends.old phases.old positions.old
-        result starts.new ends.new phases.new positions.new
+    ensures { Turned (unit_adds codes.now (rule_list rules.now) (keep (eqb verdict 1) (index ∷ []))) h arrays.old.starts arrays.old.ends arrays.old.phases arrays.old.positions
+        result arrays.new.starts arrays.new.ends arrays.new.phases arrays.new.positions
         (unit_by_codes (record { phase = phase; text = text.now; actions = action_list actions.now }) codes.now
         (rule_list rules.now) (keep (eqb verdict 1) (index ∷ []))
-        (controls_of (struct_of h starts.old ends.old phases.old positions.old))) }
+        (controls_of (struct_of h arrays.old.starts arrays.old.ends arrays.old.phases arrays.old.positions))) }
 {
     if verdict == 1 {
         let rule = rules::rule_at(rules, index as usize);
-        return rule_controls(
-            h, rule, actions, text, codes, phase, starts, ends, phases, positions,
-        );
+        rule_controls(h, rule, actions, text, codes, phase, arrays)
+    } else {
+        h
     }
-    h
 }
 
 // The controls after the members of a unit.
@@ -132,27 +114,22 @@ fn members_controls(
     text: &[u8],
     codes: &[u16],
     phase: u64,
-    starts: &mut [u64; limits::RANGES],
-    ends: &mut [u64; limits::RANGES],
-    phases: &mut [u64; limits::TARGETS],
-    positions: &mut [u64; limits::TARGETS],
+    arrays: &mut ControlArrays,
 ) -> ControlCounts
-    ensures { Turned (unit_adds codes.now (rule_list rules.now) (matched_in (journal_list entries.now))) h starts.old ends.old phases.old positions.old
-        result starts.new ends.new phases.new positions.new
+    ensures { Turned (unit_adds codes.now (rule_list rules.now) (matched_in (journal_list entries.now))) h arrays.old.starts arrays.old.ends arrays.old.phases arrays.old.positions
+        result arrays.new.starts arrays.new.ends arrays.new.phases arrays.new.positions
         (unit_by_codes (record { phase = phase; text = text.now; actions = action_list actions.now }) codes.now
         (rule_list rules.now) (matched_in (journal_list entries.now))
-        (controls_of (struct_of h starts.old ends.old phases.old positions.old))) }
+        (controls_of (struct_of h arrays.old.starts arrays.old.ends arrays.old.phases arrays.old.positions))) }
 {
     let n = entries.len() / widths::JOURNAL_ENTRY;
     let mut r = h;
-    let mut i = 0;
-    while i < n {
+    for i in 0..n {
         let index = entries[widths::JOURNAL_ENTRY * i];
         let verdict = entries[widths::JOURNAL_ENTRY * i + 1];
         r = entry_controls(
-            r, index, verdict, rules, actions, text, codes, phase, starts, ends, phases, positions,
+            r, index, verdict, rules, actions, text, codes, phase, arrays,
         );
-        i += 1;
     }
     r
 }
@@ -166,21 +143,16 @@ pub fn unit_controls(
     text: &[u8],
     codes: &[u16],
     phase: u64,
-    starts: &mut [u64; limits::RANGES],
-    ends: &mut [u64; limits::RANGES],
-    phases: &mut [u64; limits::TARGETS],
-    positions: &mut [u64; limits::TARGETS],
+    arrays: &mut ControlArrays,
 ) -> ControlCounts
-    ensures { Turned (unit_adds codes.now (rule_list rules.now) (matched_in (journal_list entries.now))) h starts.old ends.old phases.old positions.old
-        result starts.new ends.new phases.new positions.new
+    ensures { Turned (unit_adds codes.now (rule_list rules.now) (matched_in (journal_list entries.now))) h arrays.old.starts arrays.old.ends arrays.old.phases arrays.old.positions
+        result arrays.new.starts arrays.new.ends arrays.new.phases arrays.new.positions
         (unit_by_codes (record { phase = phase; text = text.now; actions = action_list actions.now }) codes.now
         (rule_list rules.now) (matched_in (journal_list entries.now))
-        (controls_of (struct_of h starts.old ends.old phases.old positions.old))) }
+        (controls_of (struct_of h arrays.old.starts arrays.old.ends arrays.old.phases arrays.old.positions))) }
 {
     if !changes::changes(entries, rules, codes) {
         return h;
     }
-    members_controls(
-        h, entries, rules, actions, text, codes, phase, starts, ends, phases, positions,
-    )
+    members_controls(h, entries, rules, actions, text, codes, phase, arrays)
 }

@@ -1,8 +1,6 @@
 -- What the struct `Controls` stands for, and what each of its methods leaves.
-use Rattle.std.specs.Prelude.{ℕ, ◌-◌, ◌≡◌, Bool, true, false, drop, replicate}
-use Rattle.reading.specs.declared.ModeSetting.{ModeSetting}
-use Rattle.reading.specs.declared.AccessSetting.{AccessSetting}
-use Rattle.reading.specs.declared.ProcessorSetting.{ProcessorSetting}
+use Rattle.std.specs.Prelude.{ℕ, ◌-◌, ◌≡◌, Bool, true, false, drop, replicate, None}
+use Rattle.reading.specs.Numbers.{answer_number}
 use Rattle.reading.specs.Controls.{range_list, target_list, no_controls}
 use Rattle.reading.specs.Controls as reading
 use Rattle.control.specs.declared.state.Controls.{Controls}
@@ -23,7 +21,7 @@ controls_of c =
 unfoldable pub unset : Controls
 unset =
     record {
-      settings = record { mode = ModeSetting.Unset; access = AccessSetting.Unset; processor = ProcessorSetting.Unset };
+      settings = record { mode = None; access = None; processor = None };
       starts = replicate 256 0;
       ends = replicate 256 0;
       ranges = 0;
@@ -59,6 +57,6 @@ pub record Became (adds : Bool) (before after : Controls) (c : reading.Controls)
 
 -- an addition of a range or of a target, with its answer: where that is not 0 the struct is handed back as it was
 pub record Added (adds : Bool) (before : Controls) (r : ChangeAnswer) (answer : ℕ) (c : reading.Controls) : Type 0 where
-  pub answer-is : r.answer ≡ answer
+  pub answer-is : answer_number r.answer ≡ answer
   pub became : answer ≡ 0 → Became adds before r.controls c
   pub refused : (answer ≡ 0 → ⊥) → r.controls ≡ before

@@ -1,8 +1,10 @@
 -- What a question answers.
-use Rattle.std.specs.Prelude.{ℕ, ◌≡◌}
+use Rattle.std.specs.Prelude.{Result, Ok, Err}
+use Rattle.reading.specs.declared.Refusal.{Refusal}
+use Rattle.reading.specs.Numbers.{refusal_number}
 use Rattle.reading.specs.Controls.{Asked}
 
--- the answer, and the value or what stands in for it
-pub record Answered {A : Type 0} (answer : ℕ) (value : A) (q : Asked A) : Type 0 where
-  pub answer-is : answer ≡ q.answer
-  pub value-is : value ≡ q.value
+-- 0 and the value, or the refusal's number and what stands in for a value
+abbrev pub asked_by : {A : Type 0} → A → Result A Refusal → Asked A
+asked_by other (Ok value) = record { answer = 0; value = value }
+asked_by other (Err refusal) = record { answer = refusal_number refusal; value = other }

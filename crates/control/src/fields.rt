@@ -6,7 +6,7 @@ ghost use Rattle.reading.specs.Ranges.{is_merged};
 ghost use Rattle.reading.specs.Controls.{range_list, mode_or};
 
 use crate::ranges;
-use reading::{ModeSetting, RuleEngineMode, limits};
+use reading::{RuleEngineMode, limits};
 
 // Refusal 3, of the controls: more than 256 ranges, more than 64 targets, or ranges that do not have the merged form.
 pub fn is_bad<'a>(
@@ -17,34 +17,23 @@ pub fn is_bad<'a>(
 ) -> bool
     ensures { result ≡ (ltb most_ranges ranges || ltb most_targets targets || not (is_merged (range_list ranges starts.now ends.now))) }
 {
-    if limits::RANGES < ranges {
-        return true;
-    }
-    if limits::TARGETS < targets {
-        return true;
-    }
-    !ranges::is_merged(starts, ends, ranges)
+    limits::RANGES < ranges || limits::TARGETS < targets || !ranges::is_merged(starts, ends, ranges)
 }
 
 // The mode that a directive set, else the rule set's.
-pub fn mode_or(ruleset_mode: RuleEngineMode, setting: ModeSetting) -> RuleEngineMode
+pub fn mode_or(ruleset_mode: RuleEngineMode, setting: Option<RuleEngineMode>) -> RuleEngineMode
     ensures { result ≡ mode_or ruleset_mode setting }
 {
-    match setting {
-        ModeSetting::Set(mode) => mode,
-        ModeSetting::Unset => ruleset_mode,
-    }
+    setting.unwrap_or(ruleset_mode)
 }
 
 // The mode of a number; refusal 1 turns every number above 2 away.
 pub fn mode_of_number(mode: u64) -> RuleEngineMode
     ensures { result ≡ mode_of_number mode }
 {
-    if mode == 0 {
-        return RuleEngineMode::On;
+    match mode {
+        0 => RuleEngineMode::On,
+        1 => RuleEngineMode::DetectionOnly,
+        _ => RuleEngineMode::Off,
     }
-    if mode == 1 {
-        return RuleEngineMode::DetectionOnly;
-    }
-    RuleEngineMode::Off
 }

@@ -1,179 +1,82 @@
-// Questions to the controls: for a rule, for the removed targets, for the request's body. Each answers 3 where the controls are beyond their limits or
-// their ranges are not in the merged form.
-ghost use Rattle.reading.specs.Controls.{ask_mode, ask_removed};
-ghost use Rattle.control.specs.ControlsStruct.{controls_of};
-ghost use Rattle.control.specs.QueryAnswers.{Answered};
-ghost use Rattle.reading.specs.Controls.{ask_target_count, ask_target};
-ghost use Rattle.std.specs.Prelude.{◌≡◌};
+// Questions to the controls: for a rule, for the removed targets, for the request's body. Each is refused with 3 where the controls are
+// beyond their limits or their ranges are not in the merged form.
+ghost use Rattle.std.specs.Prelude.{◌≡◌, cond, None, false};
+ghost use Rattle.reading.specs.declared.BodyAccess.{BodyAccess};
+ghost use Rattle.reading.specs.Numbers.{answer_number};
+ghost use Rattle.reading.specs.Controls.{bad_controls, ask_mode, ask_removed, ask_target_count, ask_target};
 ghost use Rattle.reading.specs.Controls.{access_of, ask_access, ask_processor};
+ghost use Rattle.control.specs.ControlsStruct.{controls_of};
+ghost use Rattle.control.specs.QueryAnswers.{asked_by};
 
 use crate::state::Controls;
 use crate::{fields, ranges};
-use reading::{
-    AccessSetting, BodyAccess, OptionPlace, OptionU64, Place, ProcessorSetting, RuleEngineMode,
-};
+use reading::{BodyAccess, BodyProcessor, Place, Refusal, RuleEngineMode};
 
-// The answers to questions: 0 and the value, or 3.
-#[derive(Clone, Copy)]
-pub struct ModeAnswer {
-    pub answer: u64,
-    pub mode: RuleEngineMode,
-}
-
-#[derive(Clone, Copy)]
-pub struct RemovedAnswer {
-    pub answer: u64,
-    pub removed: bool,
+// Refusal 3, or none.
+fn check_controls(c: &Controls) -> Result<(), Refusal>
+    ensures { answer_number result ≡ cond (bad_controls (controls_of c.now)) 3 0 }
+{
+    if fields::is_bad(&c.starts, &c.ends, c.ranges, c.targets) {
+        return Err(Refusal::Counts);
+    }
+    Ok(())
 }
 
 // The mode set last, else the rule set's.
-pub fn engine_mode(c: Controls, ruleset_mode: RuleEngineMode) -> ModeAnswer
-    ensures { Answered result.answer result.mode (ask_mode ruleset_mode (controls_of c)) }
+pub fn engine_mode(c: Controls, ruleset_mode: RuleEngineMode) -> Result<RuleEngineMode, Refusal>
+    ensures { asked_by ruleset_mode result ≡ ask_mode ruleset_mode (controls_of c) }
 {
-    let ranges = c.ranges;
-    let targets = c.targets;
-    if fields::is_bad(&c.starts, &c.ends, ranges, targets) {
-        return ModeAnswer {
-            answer: 3,
-            mode: ruleset_mode,
-        };
-    }
-    let held = c.settings;
-    let setting = held.mode;
-    let mode = fields::mode_or(ruleset_mode, setting);
-    ModeAnswer { answer: 0, mode }
+    check_controls(&c)?; // else no mode is answered
+    Ok(fields::mode_or(ruleset_mode, c.settings.mode))
 }
 
 // Whether a rule of this id, or of none, is removed.
-pub fn is_rule_removed(c: Controls, id: OptionU64) -> RemovedAnswer
-    ensures { Answered result.answer result.removed (ask_removed (controls_of c) id) }
+pub fn is_rule_removed(c: Controls, id: Option<u64>) -> Result<bool, Refusal>
+    ensures { asked_by false result ≡ ask_removed (controls_of c) id }
 {
-    let ranges = c.ranges;
-    let targets = c.targets;
-    if fields::is_bad(&c.starts, &c.ends, ranges, targets) {
-        return RemovedAnswer {
-            answer: 3,
-            removed: false,
-        };
-    }
-    let removed = ranges::is_removed(&c.starts, &c.ends, ranges, id);
-    RemovedAnswer { answer: 0, removed }
+    check_controls(&c)?; // else no range is looked at
+    Ok(ranges::is_removed(&c.starts, &c.ends, c.ranges, id))
 }
 
-// The answers to questions: 0 and the value, or 3.
-#[derive(Clone, Copy)]
-pub struct CountAnswer {
-    pub answer: u64,
-    pub count: usize,
-}
-
-#[derive(Clone, Copy)]
-pub struct TargetAnswer {
-    pub answer: u64,
-    pub target: OptionPlace,
-}
-
-pub fn target_count(c: Controls) -> CountAnswer
-    ensures { Answered result.answer result.count (ask_target_count (controls_of c)) }
+pub fn target_count(c: Controls) -> Result<usize, Refusal>
+    ensures { asked_by 0 result ≡ ask_target_count (controls_of c) }
 {
-    let ranges = c.ranges;
-    let targets = c.targets;
-    if fields::is_bad(&c.starts, &c.ends, ranges, targets) {
-        return CountAnswer {
-            answer: 3,
-            count: 0,
-        };
-    }
-    CountAnswer {
-        answer: 0,
-        count: targets,
-    }
+    check_controls(&c)?; // else no target is counted
+    Ok(c.targets)
 }
 
 // The target at a place of the list, counted from 0, or none after its end.
-pub fn target_at(c: Controls, at: usize) -> TargetAnswer
-    ensures { Answered result.answer result.target (ask_target (controls_of c) at) }
+pub fn target_at(c: Controls, at: usize) -> Result<Option<Place>, Refusal>
+    ensures { asked_by None result ≡ ask_target (controls_of c) at }
 {
-    let ranges = c.ranges;
-    let targets = c.targets;
-    if fields::is_bad(&c.starts, &c.ends, ranges, targets) {
-        return TargetAnswer {
-            answer: 3,
-            target: OptionPlace::None,
-        };
+    check_controls(&c)?;
+    if c.targets <= at {
+        return Ok(None);
     }
-    if targets <= at {
-        return TargetAnswer {
-            answer: 0,
-            target: OptionPlace::None,
-        };
-    }
-    let place = Place {
+    Ok(Some(Place {
         phase: c.phases[at],
         position: c.positions[at],
-    };
-    TargetAnswer {
-        answer: 0,
-        target: OptionPlace::Some(place),
-    }
-}
-
-// The answers to questions: 0 and the value, or 3.
-#[derive(Clone, Copy)]
-pub struct AccessAnswer {
-    pub answer: u64,
-    pub access: BodyAccess,
-}
-
-#[derive(Clone, Copy)]
-pub struct ProcessorAnswer {
-    pub answer: u64,
-    pub processor: ProcessorSetting,
+    }))
 }
 
 // Body access is on until set.
-fn access_of(setting: AccessSetting) -> BodyAccess
+fn access_of(setting: Option<BodyAccess>) -> BodyAccess
     ensures { result ≡ access_of setting }
 {
-    match setting {
-        AccessSetting::Set(access) => access,
-        AccessSetting::Unset => BodyAccess::On,
-    }
+    setting.unwrap_or(BodyAccess::On)
 }
 
-pub fn request_body_access(c: Controls) -> AccessAnswer
-    ensures { Answered result.answer result.access (ask_access (controls_of c)) }
+pub fn request_body_access(c: Controls) -> Result<BodyAccess, Refusal>
+    ensures { asked_by BodyAccess.On result ≡ ask_access (controls_of c) }
 {
-    let ranges = c.ranges;
-    let targets = c.targets;
-    if fields::is_bad(&c.starts, &c.ends, ranges, targets) {
-        return AccessAnswer {
-            answer: 3,
-            access: BodyAccess::On,
-        };
-    }
-    let held = c.settings;
-    let setting = held.access;
-    let access = access_of(setting);
-    AccessAnswer { answer: 0, access }
+    check_controls(&c)?; // else no access is answered
+    Ok(access_of(c.settings.access))
 }
 
 // The processor that a directive set, if any.
-pub fn request_body_processor(c: Controls) -> ProcessorAnswer
-    ensures { Answered result.answer result.processor (ask_processor (controls_of c)) }
+pub fn request_body_processor(c: Controls) -> Result<Option<BodyProcessor>, Refusal>
+    ensures { asked_by None result ≡ ask_processor (controls_of c) }
 {
-    let ranges = c.ranges;
-    let targets = c.targets;
-    if fields::is_bad(&c.starts, &c.ends, ranges, targets) {
-        return ProcessorAnswer {
-            answer: 3,
-            processor: ProcessorSetting::Unset,
-        };
-    }
-    let held = c.settings;
-    let setting = held.processor;
-    ProcessorAnswer {
-        answer: 0,
-        processor: setting,
-    }
+    check_controls(&c)?;
+    Ok(c.settings.processor)
 }

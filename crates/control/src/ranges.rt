@@ -1,24 +1,15 @@
 // Ranges of rule ids in two lists of numbers, their starts and their ends, in the merged form: sorted by start, and with at least one
 // id between each two.
-ghost use Rattle.std.specs.Prelude.{◌≡◌, ◌&&◌, ◌++◌, ◌+◌, ◌-◌, ◌≤◌, min, max, ltb, leb, length, take, drop, replicate};
+ghost use Rattle.std.specs.Prelude.{◌≡◌, ◌&&◌, ◌+◌, ◌≤◌, min, ltb, leb};
 ghost use Rattle.reading.specs.Ranges.{is_merged};
 ghost use Rattle.reading.specs.Controls.{range_list};
 ghost use Rattle.control.specs.Halving.{halved, found_by_halving};
 ghost use Rattle.control.specs.Merging.{Room, MergedOne, MergedAfter, cleared_from};
 
-use reading::{OptionU64, RuleIdRange, limits};
+use reading::{RuleIdRange, limits};
 
-// How many of 256 places are looked at where `count` are said to be in use.
-fn places_in_use(count: usize) -> usize
-    ensures { result ≡ min count 256 }
-{
-    if count < limits::RANGES {
-        return count;
-    }
-    limits::RANGES
-}
-
-// The first index whose end is not below an id, by halving: of ranges in the form no other can hold the id.
+// The first index whose end is not below an id, by halving: of ranges in the form no other can hold the id. By hand, since the answer is
+// that of `halved` also for ends out of order, of which `partition_point` promises nothing.
 fn first_end(ends: &[u64; limits::RANGES], count: usize, id: u64) -> usize
     requires { count ≤ 256 }
     ensures { result ≡ halved 9 ends.now id 0 count }
@@ -41,54 +32,28 @@ pub fn is_removed<'a>(
     starts: &'a [u64; limits::RANGES],
     ends: &'a [u64; limits::RANGES],
     count: usize,
-    id: OptionU64,
+    id: Option<u64>,
 ) -> bool
     ensures { result ≡ found_by_halving (min count 256) starts.now ends.now id }
 {
     // a rule without an id is never removed
-    let OptionU64::Some(number) = id else {
+    let Some(number) = id else {
         return false;
     };
-    if count == 0 {
-        return false; // as in most calls
+    // none is held, as in most calls, or the id is below all of them
+    if count == 0 || number < starts[0] {
+        return false;
     }
-    if number < starts[0] {
-        return false; // below all of them
-    }
-    let n = places_in_use(count);
-    let at = first_end(ends, n, number);
-    if at < n {
-        return starts[at] <= number;
-    }
-    false
+    let in_use = count.min(limits::RANGES);
+    let at = first_end(ends, in_use, number);
+    at < in_use && starts[at] <= number
 }
 
 // Whether there is an id between an end and a later start. 18446744073709551615 has no follower, and the sum is never formed.
 fn is_apart(end: u64, start: u64) -> bool
     ensures { result ≡ ltb (end + 1) start }
 {
-    if start <= end {
-        return false;
-    }
-    1 < start - end
-}
-
-fn smaller(a: u64, b: u64) -> u64
-    ensures { result ≡ min a b }
-{
-    if a < b {
-        return a;
-    }
-    b
-}
-
-fn larger(a: u64, b: u64) -> u64
-    ensures { result ≡ max a b }
-{
-    if a < b {
-        return b;
-    }
-    a
+    end < start && 1 < start - end
 }
 
 // Merges a range into the first `count` of two lists, and answers how many there are then. The range in hand goes along the list: of two
@@ -101,45 +66,27 @@ fn merge_range(starts: &mut [u64], ends: &mut [u64], count: usize, range: RuleId
     let mut start = range.start;
     let mut end = range.end;
     let mut kept = 0;
-    let mut i = 0;
-    while i < count {
+    for i in 0..count {
         let s = starts[i];
         let e = ends[i];
         if is_apart(e, start) {
             starts[kept] = s;
             ends[kept] = e;
             kept += 1;
-            i += 1;
-            continue;
-        }
-        if is_apart(end, s) {
+        } else if is_apart(end, s) {
             starts[kept] = start;
             ends[kept] = end;
             start = s;
             end = e;
             kept += 1;
-            i += 1;
-            continue;
+        } else {
+            start = s.min(start);
+            end = e.max(end);
         }
-        start = smaller(s, start);
-        end = larger(e, end);
-        i += 1;
     }
     starts[kept] = start;
     ends[kept] = end;
     kept + 1
-}
-
-// Makes every place from one index up to another 0.
-fn clear(list: &mut [u64], from: usize, to: usize)
-    requires { (from ≤ to) × (to ≤ length list.old) }
-    ensures { list.new ≡ take from list.old ++ (replicate (to - from) 0 ++ drop to list.old) }
-{
-    let mut i = from;
-    while i < to {
-        list[i] = 0;
-        i += 1;
-    }
 }
 
 // Merges the ranges at the places from `held` up to `all` into the first `held`, in order, and answers how many there are then; the
@@ -148,52 +95,36 @@ fn clear(list: &mut [u64], from: usize, to: usize)
 pub fn merge_after(starts: &mut [u64], ends: &mut [u64], held: usize, all: usize) -> usize
     ensures { MergedAfter held all starts.old ends.old result starts.new ends.new }
 {
-    if all < held {
-        return held;
-    }
-    if starts.len() < all {
-        return held;
-    }
-    if ends.len() < all {
+    if all < held || starts.len() < all || ends.len() < all {
         return held;
     }
     let mut count = held;
-    let mut i = held;
-    while i < all {
+    for i in held..all {
         let range = RuleIdRange {
             start: starts[i],
             end: ends[i],
         };
         count = merge_range(starts, ends, count, range);
-        i += 1;
     }
-    clear(starts, count, all);
-    clear(ends, count, all);
+    starts[count..all].fill(0);
+    ends[count..all].fill(0);
     count
 }
 
-// Makes every place of a list from an index on 0, unless that was done before.
+// Makes every place of a list from an index on 0, unless that was done before: a flag, for the promise (`cleared_from`) has it.
 pub fn clear_once(done: bool, list: &mut [u64], from: usize)
     ensures { list.new ≡ cleared_from done from list.old }
 {
-    if done {
-        return;
+    if !done && from <= list.len() {
+        list[from..].fill(0);
     }
-    let all = list.len();
-    if all < from {
-        return;
-    }
-    clear(list, from, all);
 }
 
 // Whether a range begins after an end, with an id between, and its start is not above its end.
 fn follows(last: u64, start: u64, end: u64) -> bool
     ensures { result ≡ (leb (last + 2) start && leb start end) }
 {
-    if is_apart(last, start) {
-        return start <= end;
-    }
-    false
+    is_apart(last, start) && start <= end
 }
 
 // Whether the first `count` ranges have the form. No more than 256 are looked at.
@@ -204,23 +135,6 @@ pub fn is_merged<'a>(
 ) -> bool
     ensures { result ≡ is_merged (range_list (min count 256) starts.now ends.now) }
 {
-    let n = places_in_use(count);
-    if n == 0 {
-        return true;
-    }
-    let mut last = ends[0];
-    if last < starts[0] {
-        return false;
-    }
-    let mut i = 1;
-    while i < n {
-        let e = ends[i];
-        if follows(last, starts[i], e) {
-            last = e;
-            i += 1;
-        } else {
-            return false;
-        }
-    }
-    true
+    let n = count.min(limits::RANGES);
+    n == 0 || (starts[0] <= ends[0] && (1..n).all(|i| follows(ends[i - 1], starts[i], ends[i])))
 }

@@ -1,26 +1,23 @@
 // What the `ctl` directives of a transaction have set (`TransactionControls`), held in arrays and
 // handed back by each operation.
-ghost use Rattle.std.specs.Prelude.{◌<◌, ◌≡◌, true, false};
+ghost use Rattle.std.specs.Prelude.{Err, ◌<◌, ◌≡◌, true, false};
 ghost use Rattle.reading.specs.Ranges.{add_range};
 ghost use Rattle.reading.specs.Controls.{bad_controls, with_mode, with_access, with_processor, with_ranges, with_range, with_target, add_range_answer, add_target_answer};
 ghost use Rattle.control.specs.ControlsStruct.{controls_of, New, Became, Added};
 
 use crate::{fields, ranges};
-use reading::{
-    AccessSetting, BodyAccess, BodyProcessor, ModeSetting, Place, ProcessorSetting, RuleEngineMode,
-    RuleIdRange, limits,
-};
+use reading::{BodyAccess, BodyProcessor, Place, Refusal, RuleEngineMode, RuleIdRange, limits};
 
 // The mode, the body access and the body processor, each set or not.
 #[derive(Clone, Copy)]
 pub struct Settings {
-    pub mode: ModeSetting,
-    pub access: AccessSetting,
-    pub processor: ProcessorSetting,
+    pub mode: Option<RuleEngineMode>,
+    pub access: Option<BodyAccess>,
+    pub processor: Option<BodyProcessor>,
 }
 
-// `ranges` and `targets` say how many places of the arrays are in use, from the start. The ranges have the merged form of the module
-// ranges.
+// 01 names this form, arrays with their counts: `ranges` and `targets` say how many places are in use, from the start. The ranges have
+// the merged form of the module ranges.
 #[derive(Clone, Copy)]
 pub struct Controls {
     pub settings: Settings,
@@ -32,23 +29,24 @@ pub struct Controls {
     pub targets: usize,
 }
 
-// The controls after an addition, with its answer.
+// Whether an addition was refused, and the controls after it, which are handed back as they were if it was.
 #[derive(Clone, Copy)]
 pub struct ChangeAnswer {
-    pub answer: u64,
+    pub answer: Result<(), Refusal>,
     pub controls: Controls,
 }
 
 impl Controls {
     // Nothing set.
+    #[tactic(auto, unfolding(crate::specs::ControlsStruct::controls_of, crate::specs::ControlsStruct::unset))]
     pub fn new() -> Self
         ensures { New result }
     {
         Controls {
             settings: Settings {
-                mode: ModeSetting::Unset,
-                access: AccessSetting::Unset,
-                processor: ProcessorSetting::Unset,
+                mode: None,
+                access: None,
+                processor: None,
             },
             starts: [0; limits::RANGES],
             ends: [0; limits::RANGES],
@@ -63,59 +61,34 @@ impl Controls {
     pub fn is_bad(self) -> bool
         ensures { result ≡ bad_controls (controls_of self) }
     {
-        let ranges = self.ranges;
-        let targets = self.targets;
-        if ranges == 0 {
-            return limits::TARGETS < targets;
+        if self.ranges == 0 {
+            return limits::TARGETS < self.targets;
         }
-        let starts = self.starts;
-        let ends = self.ends;
-        fields::is_bad(&starts, &ends, ranges, targets)
+        fields::is_bad(&self.starts, &self.ends, self.ranges, self.targets)
     }
 
-    // The last mode, body access or processor wins, and no limit refuses one.
+    // The last mode, body access or processor wins, and no limit refuses one. 01 names a method for each.
+    #[tactic(auto, unfolding(crate::specs::ControlsStruct::controls_of))]
     pub fn set_engine_mode(mut self, mode: RuleEngineMode) -> Self
         ensures { Became false self result (with_mode (controls_of self) mode) }
     {
-        let settings = self.settings;
-        let access = settings.access;
-        let processor = settings.processor;
-        let next = Settings {
-            mode: ModeSetting::Set(mode),
-            access,
-            processor,
-        };
-        self.settings = next;
+        self.settings.mode = Some(mode);
         self
     }
 
+    #[tactic(auto, unfolding(crate::specs::ControlsStruct::controls_of))]
     pub fn set_request_body_access(mut self, access: BodyAccess) -> Self
         ensures { Became false self result (with_access (controls_of self) access) }
     {
-        let settings = self.settings;
-        let mode = settings.mode;
-        let processor = settings.processor;
-        let next = Settings {
-            mode,
-            access: AccessSetting::Set(access),
-            processor,
-        };
-        self.settings = next;
+        self.settings.access = Some(access);
         self
     }
 
+    #[tactic(auto, unfolding(crate::specs::ControlsStruct::controls_of))]
     pub fn set_request_body_processor(mut self, processor: BodyProcessor) -> Self
         ensures { Became false self result (with_processor (controls_of self) processor) }
     {
-        let settings = self.settings;
-        let mode = settings.mode;
-        let access = settings.access;
-        let next = Settings {
-            mode,
-            access,
-            processor: ProcessorSetting::Set(processor),
-        };
-        self.settings = next;
+        self.settings.processor = Some(processor);
         self
     }
 
@@ -125,17 +98,21 @@ impl Controls {
         ensures { Became true self result (with_ranges (controls_of self) (add_range (controls_of self).ranges range)) }
     {
         let at = self.ranges;
-        let mut starts = self.starts;
-        let mut ends = self.ends;
-        ranges::clear_once(false, &mut starts, at);
-        ranges::clear_once(false, &mut ends, at);
-        starts[at] = range.start;
-        ends[at] = range.end;
-        let after = ranges::merge_after(&mut starts, &mut ends, at, at + 1);
-        self.starts = starts;
-        self.ends = ends;
-        self.ranges = after;
+        ranges::clear_once(false, &mut self.starts, at);
+        ranges::clear_once(false, &mut self.ends, at);
+        self.starts[at] = range.start;
+        self.ends[at] = range.end;
+        self.ranges = ranges::merge_after(&mut self.starts, &mut self.ends, at, at + 1);
         self
+    }
+
+    fn refused(self, refusal: Refusal) -> ChangeAnswer
+        ensures { result ≡ record { answer = Err refusal; controls = self } }
+    {
+        ChangeAnswer {
+            answer: Err(refusal),
+            controls: self,
+        }
     }
 
     // One range merged in. Refusals 3, 5 (start above end) and 8 (256 are held, also where it would merge), in this order.
@@ -143,29 +120,18 @@ impl Controls {
         ensures { Added true self result (add_range_answer (controls_of self) range) (with_range (controls_of self) range) }
     {
         let at = self.ranges;
-        let targets = self.targets;
-        if fields::is_bad(&self.starts, &self.ends, at, targets) {
-            return ChangeAnswer {
-                answer: 3,
-                controls: self,
-            };
+        if fields::is_bad(&self.starts, &self.ends, at, self.targets) {
+            return self.refused(Refusal::Counts);
         }
         if range.end < range.start {
-            return ChangeAnswer {
-                answer: 5,
-                controls: self,
-            };
+            return self.refused(Refusal::Record);
         }
         if limits::RANGES <= at {
-            return ChangeAnswer {
-                answer: 8,
-                controls: self,
-            };
+            return self.refused(Refusal::Ranges);
         }
-        let controls = self.with_range(range);
         ChangeAnswer {
-            answer: 0,
-            controls,
+            answer: Ok(()),
+            controls: self.with_range(range),
         }
     }
 
@@ -173,26 +139,18 @@ impl Controls {
     pub fn remove_target(mut self, at: Place) -> ChangeAnswer
         ensures { Added false self result (add_target_answer (controls_of self)) (with_target (controls_of self) at) }
     {
-        let ranges = self.ranges;
         let next = self.targets;
-        if fields::is_bad(&self.starts, &self.ends, ranges, next) {
-            return ChangeAnswer {
-                answer: 3,
-                controls: self,
-            };
+        if fields::is_bad(&self.starts, &self.ends, self.ranges, next) {
+            return self.refused(Refusal::Counts);
         }
         if limits::TARGETS <= next {
-            return ChangeAnswer {
-                answer: 9,
-                controls: self,
-            };
+            return self.refused(Refusal::Targets);
         }
-        let after = next + 1;
         self.phases[next] = at.phase;
         self.positions[next] = at.position;
-        self.targets = after;
+        self.targets = next + 1;
         ChangeAnswer {
-            answer: 0,
+            answer: Ok(()),
             controls: self,
         }
     }

@@ -1,11 +1,9 @@
 -- The pass of `count_ranges`: what each byte makes of what is seen of a part. That the pass counts what `removal_value` says
 -- is proved in proofs/Passing.antt and Commas.antt: nobody needs to believe this page.
-use Rattle.std.specs.Prelude.{ℕ, suc, ◌+◌, ◌-◌, ◌*◌, Bool, true, false, cond, List, [], ◌∷◌, leb, eqb}
+use Rattle.std.specs.Prelude.{ℕ, suc, ◌+◌, ◌-◌, ◌*◌, Bool, true, false, cond, List, [], ◌∷◌, leb, eqb, Option, Some, None}
 use Rattle.reading.specs.Text.{is_blank, largest}
 use Rattle.ctl.specs.declared.range_count.Stage.{Stage}
 use Rattle.ctl.specs.declared.range_count.PartState.{PartState}
-use Rattle.ctl.specs.declared.range_count.Step.{Step}
-use Rattle.ctl.specs.declared.range_count.PartEnd.{PartEnd}
 
 abbrev pub is_after_digits : Stage → Bool
 is_after_digits Stage.Start = false
@@ -26,52 +24,52 @@ part_start = record { second = false; first = 0; stage = Stage.Start; value = 0 
 abbrev pub with_stage : PartState → Stage → ℕ → PartState
 with_stage s stage v = record { second = s.second; first = s.first; stage = stage; value = v }
 
-abbrev pub digit_step : PartState → ℕ → Step
+abbrev pub digit_step : PartState → ℕ → Option PartState
 digit_step s b =
-    cond (is_after_digits s.stage) Step.Bad
-    (cond (leb (s.value * 10 + (b - 48)) largest) (Step.Next (with_stage s Stage.Digits (s.value * 10 + (b - 48)))) Step.Bad)
+    cond (is_after_digits s.stage) None
+    (cond (leb (s.value * 10 + (b - 48)) largest) (Some (with_stage s Stage.Digits (s.value * 10 + (b - 48)))) None)
 
-abbrev pub blank_at : Stage → PartState → Step
-blank_at Stage.Start s = Step.Next (with_stage s Stage.Start s.value)
-blank_at Stage.Plus s = Step.Bad
-blank_at Stage.Digits s = Step.Next (with_stage s Stage.AfterDigits s.value)
-blank_at Stage.AfterDigits s = Step.Next (with_stage s Stage.AfterDigits s.value)
+abbrev pub blank_at : Stage → PartState → Option PartState
+blank_at Stage.Start s = Some (with_stage s Stage.Start s.value)
+blank_at Stage.Plus s = None
+blank_at Stage.Digits s = Some (with_stage s Stage.AfterDigits s.value)
+blank_at Stage.AfterDigits s = Some (with_stage s Stage.AfterDigits s.value)
 
-abbrev pub blank_step : PartState → Step
+abbrev pub blank_step : PartState → Option PartState
 blank_step s = blank_at s.stage s
 
-abbrev pub plus_at : Stage → PartState → Step
-plus_at Stage.Start s = Step.Next (with_stage s Stage.Plus s.value)
-plus_at Stage.Plus s = Step.Bad
-plus_at Stage.Digits s = Step.Bad
-plus_at Stage.AfterDigits s = Step.Bad
+abbrev pub plus_at : Stage → PartState → Option PartState
+plus_at Stage.Start s = Some (with_stage s Stage.Plus s.value)
+plus_at Stage.Plus s = None
+plus_at Stage.Digits s = None
+plus_at Stage.AfterDigits s = None
 
-abbrev pub plus_step : PartState → Step
+abbrev pub plus_step : PartState → Option PartState
 plus_step s = plus_at s.stage s
 
 -- the number at hand becomes the first of two
-abbrev pub dash_step : PartState → Step
+abbrev pub dash_step : PartState → Option PartState
 dash_step s =
-    cond s.second Step.Bad
-    (cond (has_digits s.stage) (Step.Next (record { second = true; first = s.value; stage = Stage.Start; value = 0 })) Step.Bad)
+    cond s.second None
+    (cond (has_digits s.stage) (Some (record { second = true; first = s.value; stage = Stage.Start; value = 0 })) None)
 
 -- a byte that is neither a digit nor a comma; "-" is 2D, "+" is 2B
-abbrev pub other_step : PartState → ℕ → Step
-other_step s b = cond (is_blank b) (blank_step s) (cond (eqb b 45) (dash_step s) (cond (eqb b 43) (plus_step s) Step.Bad))
+abbrev pub other_step : PartState → ℕ → Option PartState
+other_step s b = cond (is_blank b) (blank_step s) (cond (eqb b 45) (dash_step s) (cond (eqb b 43) (plus_step s) None))
 
 -- a part that ends after its "-", and one that has none
-abbrev pub pair_end : ℕ → ℕ → PartEnd
-pair_end first second = cond (leb first second) (PartEnd.Counts 1) PartEnd.Bad
+abbrev pub pair_end : ℕ → ℕ → Option ℕ
+pair_end first second = cond (leb first second) (Some 1) None
 
-abbrev pub single_end : Stage → PartEnd
-single_end Stage.Start = PartEnd.Counts 0
-single_end Stage.Plus = PartEnd.Bad
-single_end Stage.Digits = PartEnd.Counts 1
-single_end Stage.AfterDigits = PartEnd.Counts 1
+abbrev pub single_end : Stage → Option ℕ
+single_end Stage.Start = Some 0
+single_end Stage.Plus = None
+single_end Stage.Digits = Some 1
+single_end Stage.AfterDigits = Some 1
 
-abbrev pub part_end : PartState → PartEnd
+abbrev pub part_end : PartState → Option ℕ
 part_end s =
-    cond s.second (cond (has_digits s.stage) (pair_end s.first s.value) PartEnd.Bad) (single_end s.stage)
+    cond s.second (cond (has_digits s.stage) (pair_end s.first s.value) None) (single_end s.stage)
 
 -- how many commas a list begins with; "," is 2C
 unfoldable pub leading_commas : List ℕ → ℕ

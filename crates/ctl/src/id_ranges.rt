@@ -5,7 +5,7 @@ ghost use Rattle.std.specs.Prelude.{◌≡◌, ◌<◌, suc, length, take, drop}
 ghost use Rattle.reading.specs.Text.{trim, number_of, ids_from, id_part};
 ghost use Rattle.ctl.specs.WriteRanges.{Put, Written};
 
-use reading::{IdPart, Number, RuleIdRange};
+use reading::{IdPart, RuleIdRange};
 use text::{ascii, number, trim};
 
 // The range between the two numbers around the index k.
@@ -14,12 +14,11 @@ fn ids_around(t: &[u8], k: usize) -> IdPart
     ensures { result ≡ ids_from (number_of (trim (take k t.now))) (number_of (trim (drop (suc k) t.now))) }
 {
     let before = trim::trim(&t[..k]);
-    let Number::Value(start) = number::read_number(before) else {
+    let Some(start) = number::read_number(before) else {
         return IdPart::Bad;
     };
-    let from = k + 1;
-    let past = trim::trim(&t[from..]);
-    let Number::Value(end) = number::read_number(past) else {
+    let past = trim::trim(&t[k + 1..]);
+    let Some(end) = number::read_number(past) else {
         return IdPart::Bad;
     };
     if end < start {
@@ -33,14 +32,14 @@ fn id_part(p: &[u8]) -> IdPart
     ensures { result ≡ id_part p.now }
 {
     let t = trim::trim(p);
-    if t.len() == 0 {
+    if t.is_empty() {
         return IdPart::Blank;
     }
     let k = ascii::find(t, b'-');
     if k < t.len() {
         return ids_around(t, k);
     }
-    let Number::Value(id) = number::read_number(t) else {
+    let Some(id) = number::read_number(t) else {
         return IdPart::Bad;
     };
     IdPart::Range(RuleIdRange { start: id, end: id })
@@ -50,20 +49,13 @@ fn id_part(p: &[u8]) -> IdPart
 fn put_range(part: IdPart, k: usize, starts: &mut [u64], ends: &mut [u64]) -> usize
     ensures { Put part k starts.old ends.old result starts.new ends.new }
 {
-    if starts.len() <= k {
-        return k;
-    }
-    if ends.len() <= k {
-        return k;
-    }
     match part {
-        IdPart::Blank => k,
-        IdPart::Bad => k,
-        IdPart::Range(r) => {
+        IdPart::Range(r) if k < starts.len() && k < ends.len() => {
             starts[k] = r.start;
             ends[k] = r.end;
             k + 1
         }
+        _ => k,
     }
 }
 
@@ -72,15 +64,7 @@ pub fn write_ranges(value: &[u8], starts: &mut [u64], ends: &mut [u64])
     ensures { Written value.now starts.old ends.old starts.new ends.new }
 {
     let mut k = 0;
-    let mut at = 0;
-    loop {
-        let rest = &value[at..];
-        let comma = ascii::find(rest, b',');
-        let part = id_part(&rest[..comma]);
-        k = put_range(part, k, starts, ends);
-        if value.len() - at <= comma {
-            return;
-        }
-        at += comma + 1;
+    for part in value.split(|b| *b == b',') {
+        k = put_range(id_part(part), k, starts, ends);
     }
 }

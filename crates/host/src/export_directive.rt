@@ -4,9 +4,9 @@ ghost use Rattle.reading.specs.Directive.{reader_outcome};
 ghost use Rattle.reading.specs.Numbers.{directive_number, directive_value, read_number, read_value};
 ghost use Rattle.host.specs.ReadRecord.{Recorded};
 
-use abi::values;
+use abi::values::Numbered;
 use ctl::{directive, read};
-use reading::{CtlDirective, OptionDirective};
+use reading::CtlDirective;
 
 // What the reader answers, the number of the directive's form, and its value.
 #[repr(C)]
@@ -42,31 +42,12 @@ fn directive_value(d: CtlDirective) -> u64
 {
     match d {
         CtlDirective::Unsupported(reason) => directive::reason_number(reason) as u64,
-        CtlDirective::RuleEngine(m) => values::mode_number(m),
+        CtlDirective::RuleEngine(m) => m.number(),
         CtlDirective::RuleRemoveById(n) => n as u64,
         CtlDirective::RuleRemoveTargetById(cut) => cut as u64,
-        CtlDirective::RequestBodyAccess(a) => values::access_number(a),
-        CtlDirective::RequestBodyProcessor(p) => values::processor_number(p),
+        CtlDirective::RequestBodyAccess(a) => a.number(),
+        CtlDirective::RequestBodyProcessor(p) => p.number(),
     }
-}
-
-// Both are 0 where nothing was read.
-fn form_of(found: OptionDirective) -> u64
-    ensures { result ≡ read_number found }
-{
-    match found {
-        OptionDirective::None => 0,
-        OptionDirective::Some(d) => directive_form(d),
-    }
-}
-
-fn value_of(found: OptionDirective) -> u64
-    ensures { result ≡ read_value found }
-{
-    let OptionDirective::Some(d) = found else {
-        return 0;
-    };
-    directive_value(d)
 }
 
 // Reads a directive. The ranges of a ruleRemoveById go to the start of the two lists.
@@ -81,11 +62,16 @@ pub extern "C" fn tivembo_read_directive(
         (reader_outcome name.now value.now starts.old ends.old)
         result starts.new ends.new }
 {
-    let read = read::read_directive(name, value, starts, ends);
-    let found = read.directive;
-    ReadRecord {
-        answer: read.answer,
-        form: form_of(found),
-        value: value_of(found),
+    match read::read_directive(name, value, starts, ends) {
+        Ok(d) => ReadRecord {
+            answer: 0,
+            form: directive_form(d),
+            value: directive_value(d),
+        },
+        Err(refusal) => ReadRecord {
+            answer: refusal.number(),
+            form: 0,
+            value: 0,
+        },
     }
 }

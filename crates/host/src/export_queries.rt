@@ -2,16 +2,16 @@
 // not merged, and then 5 where a number of the record is not known.
 ghost use Rattle.std.specs.Prelude.{◌≡◌, ◌&&◌};
 ghost use Rattle.abi.specs.HostControls.{known_controls};
-ghost use Rattle.host.specs.HostQueries.{refusal_in, host_target_count, host_target};
 ghost use Rattle.abi.specs.HostValues.{number_known};
-ghost use Rattle.host.specs.HostQueries.{host_mode, host_removed};
-ghost use Rattle.host.specs.HostQueries.{host_access, host_processor};
+ghost use Rattle.reading.specs.Numbers.{answer_number};
+ghost use Rattle.host.specs.HostQueries.{refusal_in, answered_by, target_by, host_target_count, host_target};
+ghost use Rattle.host.specs.HostQueries.{host_mode, host_removed, host_access, host_processor};
 
 use abi::host_controls::HostControls;
-use abi::values::{HostNumber, HostPlace};
+use abi::values::{HostNumber, HostPlace, Numbered};
 use abi::{host_controls, values};
 use control::{fields, queries};
-use reading::OptionPlace;
+use reading::{Place, Refusal};
 
 // The answer to a question: 0 and the number of a value, or the number of a refusal and 0.
 #[repr(C)]
@@ -33,24 +33,24 @@ pub struct HostTarget {
     pub target: HostPlace,
 }
 
-// 3, 5 or 0, of a host's controls, and of whether every number is known.
-pub fn refusal(c: HostControls, known: bool) -> u64
-    ensures { result ≡ refusal_in c known }
+// 3 or 5, of a host's controls and of whether every number is known, or none.
+pub fn refusal(c: HostControls, known: bool) -> Result<(), Refusal>
+    ensures { answer_number result ≡ refusal_in c known }
 {
     let ranges = c.ranges as usize;
     let targets = c.targets as usize;
     if fields::is_bad(&c.starts, &c.ends, ranges, targets) {
-        return 3;
+        return Err(Refusal::Counts);
     }
     if !known {
-        return 5;
+        return Err(Refusal::Record);
     }
-    0
+    Ok(())
 }
 
 // The same where the controls are all that is given.
-pub fn refusal_of(c: HostControls) -> u64
-    ensures { result ≡ refusal_in c (known_controls c) }
+pub fn refusal_of(c: HostControls) -> Result<(), Refusal>
+    ensures { answer_number result ≡ refusal_in c (known_controls c) }
 {
     refusal(c, host_controls::is_known_controls(c))
 }
@@ -62,20 +62,36 @@ pub fn refusal_answer(answer: u64) -> HostQueryAnswer
     HostQueryAnswer { answer, value: 0 }
 }
 
+// The answer to a question, as numbers.
+fn query_answer(value: Result<u64, Refusal>) -> HostQueryAnswer
+    ensures { result ≡ answered_by value }
+{
+    match value {
+        Ok(value) => HostQueryAnswer { answer: 0, value },
+        Err(refusal) => refusal_answer(refusal.number()),
+    }
+}
+
+fn target_count(c: HostControls) -> Result<u64, Refusal>
+    ensures { answered_by result ≡ host_target_count c }
+{
+    refusal_of(c)?; // else nothing is counted
+    Ok(queries::target_count(c.into())? as u64)
+}
+
 // How many targets are removed.
 #[unsafe(no_mangle)]
 pub extern "C" fn tivembo_target_count(c: HostControls) -> HostQueryAnswer
     ensures { result ≡ host_target_count c }
 {
-    let n = refusal_of(c);
-    if n != 0 {
-        return refusal_answer(n); // and not counted
-    }
-    let q = queries::target_count(host_controls::controls_from_host(c));
-    HostQueryAnswer {
-        answer: 0,
-        value: q.count as u64,
-    }
+    query_answer(target_count(c))
+}
+
+fn target_at(c: HostControls, at: u64) -> Result<Option<Place>, Refusal>
+    ensures { target_by result ≡ host_target c at }
+{
+    refusal_of(c)?; // whatever place is asked for
+    queries::target_at(c.into(), at as usize)
 }
 
 // The target at a place of the list, counted from 0, or none after its end.
@@ -83,15 +99,27 @@ pub extern "C" fn tivembo_target_count(c: HostControls) -> HostQueryAnswer
 pub extern "C" fn tivembo_target_at(c: HostControls, at: u64) -> HostTarget
     ensures { result ≡ host_target c at }
 {
-    let n = refusal_of(c);
-    if n != 0 {
-        let target = values::host_place(OptionPlace::None);
-        return HostTarget { answer: n, target };
+    match target_at(c, at) {
+        Ok(found) => HostTarget {
+            answer: 0,
+            target: found.into(),
+        },
+        Err(refusal) => HostTarget {
+            answer: refusal.number(),
+            target: None.into(),
+        },
     }
-    let q = queries::target_at(host_controls::controls_from_host(c), at as usize);
-    let found = q.target;
-    let target = values::host_place(found);
-    HostTarget { answer: 0, target }
+}
+
+fn engine_mode(c: HostControls, ruleset_mode: u64) -> Result<u64, Refusal>
+    ensures { answered_by result ≡ host_mode c ruleset_mode }
+{
+    if 2 < ruleset_mode {
+        return Err(Refusal::Settings);
+    }
+    refusal_of(c)?;
+    let mode = queries::engine_mode(c.into(), fields::mode_of_number(ruleset_mode))?;
+    Ok(mode.number())
 }
 
 // The mode set last, else the rule set's: 0, 1 or 2.
@@ -99,30 +127,22 @@ pub extern "C" fn tivembo_target_at(c: HostControls, at: u64) -> HostTarget
 pub extern "C" fn tivembo_engine_mode(c: HostControls, ruleset_mode: u64) -> HostQueryAnswer
     ensures { result ≡ host_mode c ruleset_mode }
 {
-    if 2 < ruleset_mode {
-        return refusal_answer(1);
-    }
-    let n = refusal_of(c);
-    if n != 0 {
-        return refusal_answer(n);
-    }
-    let q = queries::engine_mode(
-        host_controls::controls_from_host(c),
-        fields::mode_of_number(ruleset_mode),
-    );
-    let mode = q.mode;
-    let value = values::mode_number(mode);
-    HostQueryAnswer { answer: 0, value }
+    query_answer(engine_mode(c, ruleset_mode))
 }
 
 // Whether every number of the controls and of an id is known.
 fn are_known(c: HostControls, id: HostNumber) -> bool
     ensures { result ≡ (known_controls c && number_known id) }
 {
-    if !host_controls::is_known_controls(c) {
-        return false;
-    }
-    values::is_number_known(id)
+    host_controls::is_known_controls(c) && values::is_number_known(id)
+}
+
+fn is_rule_removed(c: HostControls, id: HostNumber) -> Result<u64, Refusal>
+    ensures { answered_by result ≡ host_removed c id }
+{
+    refusal(c, are_known(c, id))?;
+    let removed = queries::is_rule_removed(c.into(), id.into())?;
+    Ok(values::flag_number(removed))
 }
 
 // Whether a rule of this id, or of none, is removed: 1 or 0.
@@ -130,16 +150,15 @@ fn are_known(c: HostControls, id: HostNumber) -> bool
 pub extern "C" fn tivembo_is_rule_removed(c: HostControls, id: HostNumber) -> HostQueryAnswer
     ensures { result ≡ host_removed c id }
 {
-    let n = refusal(c, are_known(c, id));
-    if n != 0 {
-        return refusal_answer(n);
-    }
-    let q = queries::is_rule_removed(
-        host_controls::controls_from_host(c),
-        values::option_number(id),
-    );
-    let value = values::flag_number(q.removed);
-    HostQueryAnswer { answer: 0, value }
+    query_answer(is_rule_removed(c, id))
+}
+
+fn request_body_access(c: HostControls) -> Result<u64, Refusal>
+    ensures { answered_by result ≡ host_access c }
+{
+    refusal_of(c)?; // whatever access is set
+    let access = queries::request_body_access(c.into())?;
+    Ok(access.number())
 }
 
 // Whether the request body is read: 0 On, 1 Off.
@@ -147,14 +166,15 @@ pub extern "C" fn tivembo_is_rule_removed(c: HostControls, id: HostNumber) -> Ho
 pub extern "C" fn tivembo_request_body_access(c: HostControls) -> HostQueryAnswer
     ensures { result ≡ host_access c }
 {
-    let n = refusal_of(c);
-    if n != 0 {
-        return refusal_answer(n); // whatever access is set
-    }
-    let q = queries::request_body_access(host_controls::controls_from_host(c));
-    let access = q.access;
-    let value = values::access_number(access);
-    HostQueryAnswer { answer: 0, value }
+    query_answer(request_body_access(c))
+}
+
+fn request_body_processor(c: HostControls) -> Result<u64, Refusal>
+    ensures { answered_by result ≡ host_processor c }
+{
+    refusal_of(c)?; // whatever processor is set
+    let processor = queries::request_body_processor(c.into())?;
+    Ok(values::setting_number(processor))
 }
 
 // The body processor: 0 where none is set, else one more than its number.
@@ -162,12 +182,5 @@ pub extern "C" fn tivembo_request_body_access(c: HostControls) -> HostQueryAnswe
 pub extern "C" fn tivembo_request_body_processor(c: HostControls) -> HostQueryAnswer
     ensures { result ≡ host_processor c }
 {
-    let n = refusal_of(c);
-    if n != 0 {
-        return refusal_answer(n); // whatever processor is set
-    }
-    let q = queries::request_body_processor(host_controls::controls_from_host(c));
-    let processor = q.processor;
-    let value = values::processor_setting_number(processor);
-    HostQueryAnswer { answer: 0, value }
+    query_answer(request_body_processor(c))
 }

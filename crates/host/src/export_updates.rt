@@ -6,8 +6,8 @@ ghost use Rattle.std.specs.Prelude.{true, false};
 ghost use Rattle.host.specs.HostUpdates.{HostAdded};
 
 use crate::export_queries;
-use abi::host_controls;
 use abi::host_controls::HostControls;
+use control::state::Controls;
 use reading::{Place, RuleIdRange};
 
 // The record after an addition, with its answer.
@@ -27,27 +27,22 @@ pub extern "C" fn tivembo_remove_range(c: HostControls, start: u64, end: u64) ->
     ensures { HostAdded true c result (add_range_answer (controls_in c) (record { start = start; end = end }))
         (with_range (controls_in c) (record { start = start; end = end })) }
 {
-    let n = export_queries::refusal_of(c);
-    if n != 0 {
+    if let Err(refusal) = export_queries::refusal_of(c) {
         return HostChangeAnswer {
-            answer: n,
+            answer: refusal.number(),
             controls: c,
         };
     }
-    let held = host_controls::controls_from_host(c);
-    let added = held.remove_range(RuleIdRange { start, end });
-    let answer = added.answer;
-    if answer != 0 {
+    let added = Controls::from(c).remove_range(RuleIdRange { start, end });
+    if let Err(refusal) = added.answer {
         return HostChangeAnswer {
-            answer, // 5 or 8
+            answer: refusal.number(), // 5 or 8
             controls: c,
         };
     }
-    let after = added.controls;
-    let controls = host_controls::controls_to_host(after);
     HostChangeAnswer {
         answer: 0,
-        controls,
+        controls: added.controls.into(),
     }
 }
 
@@ -60,26 +55,21 @@ pub extern "C" fn tivembo_remove_target(
 ) -> HostChangeAnswer
     ensures { HostAdded false c result (add_target_answer (controls_in c)) (with_target (controls_in c) (record { phase = phase; position = position })) }
 {
-    let n = export_queries::refusal_of(c);
-    if n != 0 {
+    if let Err(refusal) = export_queries::refusal_of(c) {
         return HostChangeAnswer {
-            answer: n,
+            answer: refusal.number(),
             controls: c,
         };
     }
-    let held = host_controls::controls_from_host(c);
-    let added = held.remove_target(Place { phase, position });
-    let answer = added.answer;
-    if answer != 0 {
+    let added = Controls::from(c).remove_target(Place { phase, position });
+    if let Err(refusal) = added.answer {
         return HostChangeAnswer {
-            answer, // 9
+            answer: refusal.number(), // 9
             controls: c,
         };
     }
-    let after = added.controls;
-    let controls = host_controls::controls_to_host(after);
     HostChangeAnswer {
         answer: 0,
-        controls,
+        controls: added.controls.into(),
     }
 }

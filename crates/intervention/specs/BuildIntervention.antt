@@ -1,8 +1,7 @@
 -- What a stopped phase gives.
-use Rattle.std.specs.Prelude.{ℕ}
+use Rattle.std.specs.Prelude.{ℕ, Option, Some, None}
 use Rattle.reading.specs.declared.DisruptiveOutcome.{DisruptiveOutcome}
 use Rattle.reading.specs.declared.Intervention.{Intervention}
-use Rattle.reading.specs.declared.OptionIntervention.{OptionIntervention}
 use Rattle.intervention.specs.declared.decide.Ending.{Ending}
 
 -- the status of a disruptive action, given the caller's default: `stop_status` by the Rust's reading, which asks no status
@@ -17,8 +16,8 @@ status_by (DisruptiveOutcome.Redirect at) status = 302
 status_by DisruptiveOutcome.Drop status = 444
 
 -- the intervention, where the phase is stopped
-abbrev pub intervention_at_end : Ending → Intervention → OptionIntervention
-intervention_at_end Ending.GoesOn i = OptionIntervention.None
-intervention_at_end Ending.Allows i = OptionIntervention.None
-intervention_at_end Ending.Errs i = OptionIntervention.None
-intervention_at_end Ending.Stops i = OptionIntervention.Some i
+abbrev pub intervention_at_end : Ending → Intervention → Option Intervention
+intervention_at_end Ending.GoesOn i = None
+intervention_at_end Ending.Allows i = None
+intervention_at_end Ending.Errs i = None
+intervention_at_end Ending.Stops i = Some i

@@ -7,10 +7,7 @@ ghost use Rattle.intervention.specs.BuildIntervention.{status_by, intervention_a
 
 use crate::decide::Ending;
 use actions::execute;
-use reading::{
-    CallSettings, DisruptiveOutcome, Intervention, OptionIntervention, OptionPlace, OptionU64,
-    Place,
-};
+use reading::{CallSettings, DisruptiveOutcome, Intervention, Place};
 use ruleset::rules;
 use unit::members;
 
@@ -19,13 +16,11 @@ fn status_of(disruptive: DisruptiveOutcome, status: u64) -> u64
     ensures { result ≡ status_by disruptive status }
 {
     match disruptive {
-        DisruptiveOutcome::Nothing => 0,
         DisruptiveOutcome::Deny => 403,
         DisruptiveOutcome::Block => status,
-        DisruptiveOutcome::Pass => 0,
-        DisruptiveOutcome::Allow => 0,
         DisruptiveOutcome::Redirect(_) => 302,
         DisruptiveOutcome::Drop => 444,
+        DisruptiveOutcome::Nothing | DisruptiveOutcome::Pass | DisruptiveOutcome::Allow => 0,
     }
 }
 
@@ -33,46 +28,24 @@ fn status_of(disruptive: DisruptiveOutcome, status: u64) -> u64
 fn is_drop(disruptive: DisruptiveOutcome) -> bool
     ensures { result ≡ drops disruptive }
 {
-    match disruptive {
-        DisruptiveOutcome::Nothing => false,
-        DisruptiveOutcome::Deny => false,
-        DisruptiveOutcome::Block => false,
-        DisruptiveOutcome::Pass => false,
-        DisruptiveOutcome::Allow => false,
-        DisruptiveOutcome::Redirect(_) => false,
-        DisruptiveOutcome::Drop => true,
-    }
+    matches!(disruptive, DisruptiveOutcome::Drop)
 }
 
 // The address of a redirect, kept as its place.
-fn address_of(phase: u64, disruptive: DisruptiveOutcome) -> OptionPlace
+fn address_of(phase: u64, disruptive: DisruptiveOutcome) -> Option<Place>
     ensures { result ≡ address_of phase disruptive }
 {
     match disruptive {
-        DisruptiveOutcome::Nothing => OptionPlace::None,
-        DisruptiveOutcome::Deny => OptionPlace::None,
-        DisruptiveOutcome::Block => OptionPlace::None,
-        DisruptiveOutcome::Pass => OptionPlace::None,
-        DisruptiveOutcome::Allow => OptionPlace::None,
-        DisruptiveOutcome::Redirect(position) => OptionPlace::Some(Place { phase, position }),
-        DisruptiveOutcome::Drop => OptionPlace::None,
+        DisruptiveOutcome::Redirect(position) => Some(Place { phase, position }),
+        _ => None,
     }
 }
 
 // A second id, where it is not the first once more.
-fn if_different(first: OptionU64, id: OptionU64) -> OptionU64
+fn if_different(first: Option<u64>, id: Option<u64>) -> Option<u64>
     ensures { result ≡ if_different first id }
 {
-    let OptionU64::Some(a) = first else {
-        return id;
-    };
-    let OptionU64::Some(b) = id else {
-        return OptionU64::None;
-    };
-    if a == b {
-        return OptionU64::None;
-    }
-    id
+    if first == id { None } else { id }
 }
 
 // The intervention of a unit, whose members are the matched entries of a part of the journal.
@@ -98,21 +71,15 @@ fn unit_intervention(
         &mut none[1..],
     );
     let closing = rules::rule_id(rules::rule_at(rules, closer as usize));
-    let disruptive = done.disruptive;
-    let metadata = done.metadata;
-    let id = metadata.id;
-    let log = metadata.msg;
-    let url = address_of(phase, disruptive);
-    let other = if_different(closing, id);
     Intervention {
-        status: status_of(disruptive, call.default_status),
-        url,
-        log,
+        status: status_of(done.disruptive, call.default_status),
+        url: address_of(phase, done.disruptive),
+        log: done.metadata.msg,
         closing,
-        starter: other,
+        starter: if_different(closing, done.metadata.id),
         phase,
-        drop: is_drop(disruptive),
-        metadata,
+        drop: is_drop(done.disruptive),
+        metadata: done.metadata,
     }
 }
 
@@ -123,17 +90,13 @@ pub fn build_intervention(
     rules: &[u64],
     actions: &[u64],
     call: CallSettings,
-) -> OptionIntervention
+) -> Option<Intervention>
     ensures { (markers : List Marker) (text outcomes : List ℕ)
         → result ≡ intervention_at_end ending (unit_intervention (given_of call rules.now actions.now markers text outcomes)
         (matched_in (journal_list members.now))) }
 {
     match ending {
-        Ending::GoesOn => OptionIntervention::None,
-        Ending::Allows => OptionIntervention::None,
-        Ending::Errs => OptionIntervention::None,
-        Ending::Stops => {
-            OptionIntervention::Some(unit_intervention(members, rules, actions, call))
-        }
+        Ending::Stops => Some(unit_intervention(members, rules, actions, call)),
+        Ending::GoesOn | Ending::Allows | Ending::Errs => None,
     }
 }

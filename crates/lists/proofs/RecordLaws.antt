@@ -25,7 +25,7 @@ module _ {A : Type 0} where
   drop-values f (suc n) zero h = refl
   drop-values f (suc n) (suc i) h = drop-values (λ k. f (suc k)) n i (omega arith)
 
-  values_same : (f g : ℕ → A) (n : ℕ) → ((i : ℕ) → f i ≡ g i) → values f n ≡ values g n
+  pub values_same : (f g : ℕ → A) (n : ℕ) → ((i : ℕ) → f i ≡ g i) → values f n ≡ values g n
   values_same f g zero h = refl
   values_same f g (suc n) h = ap (λ (a : A). a ∷ values (λ i. f (suc i)) n) (h zero)
       ∙ ap (λ (l : List A). g zero ∷ l) (values_same (λ i. f (suc i)) (λ i. g (suc i)) n (λ i. h (suc i)))

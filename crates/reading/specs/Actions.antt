@@ -1,9 +1,7 @@
 -- What a rule's actions come to (`execute_actions`).
-use Rattle.std.specs.Prelude.{ℕ, suc, Bool, cond, ◌&&◌, List, [], ◌∷◌, ◌++◌, take, drop, leb, eqb}
-use Rattle.std.proofs.Math.Option.{Option, some, none}
+use Rattle.std.specs.Prelude.{ℕ, suc, Bool, cond, ◌&&◌, List, [], ◌∷◌, ◌++◌, take, drop, leb, eqb, Option, Some, None}
+use Rattle.reading.specs.declared.Place.{Place}
 use Rattle.reading.specs.declared.Action.{Action}
-use Rattle.reading.specs.declared.OptionU64.{OptionU64}
-use Rattle.reading.specs.declared.OptionPlace.{OptionPlace}
 use Rattle.reading.specs.declared.DisruptiveOutcome.{DisruptiveOutcome}
 use Rattle.reading.specs.declared.FlowOutcome.{FlowOutcome}
 use Rattle.reading.specs.declared.RuleMetadata.{RuleMetadata}
@@ -31,10 +29,10 @@ kind_of p = p.action.kind
 -- the last action whose kind passes the test, or the one found before; each takes the place of an earlier one
 abbrev pub last_from : Option Placed → (ℕ → Bool) → List Placed → Option Placed
 last_from found test [] = found
-last_from found test (p ∷ ps) = last_from (cond (test (kind_of p)) (some p) found) test ps
+last_from found test (p ∷ ps) = last_from (cond (test (kind_of p)) (Some p) found) test ps
 
 unfoldable pub last_of : (ℕ → Bool) → List Placed → Option Placed
-last_of test ps = last_from none test ps
+last_of test ps = last_from None test ps
 
 -- 01: "(deny, block, pass, allow, redirect, drop)": kinds 1 to 6
 abbrev pub is_disruptive : ℕ → Bool
@@ -46,8 +44,8 @@ is_flow kind = leb 7 kind && leb kind 10
 
 -- the outcome of a disruptive action: kinds 1 deny, 2 block, 3 pass, 4 allow, 5 redirect, 6 drop
 abbrev pub disruptive_by : Option Placed → DisruptiveOutcome
-disruptive_by none = DisruptiveOutcome.Nothing
-disruptive_by (some p) =
+disruptive_by None = DisruptiveOutcome.Nothing
+disruptive_by (Some p) =
     cond (eqb (kind_of p) 1) DisruptiveOutcome.Deny
     (cond (eqb (kind_of p) 2) DisruptiveOutcome.Block
     (cond (eqb (kind_of p) 3) DisruptiveOutcome.Pass
@@ -60,8 +58,8 @@ last_disruptive ps = disruptive_by (last_of is_disruptive ps)
 
 -- the outcome of a flow action: kinds 7 chain, 8 skip, 9 skipAfter, 10 multiMatch, which is none
 abbrev pub flow_by : Option Placed → FlowOutcome
-flow_by none = FlowOutcome.Continue
-flow_by (some p) =
+flow_by None = FlowOutcome.Continue
+flow_by (Some p) =
     cond (eqb (kind_of p) 7) FlowOutcome.Chain
     (cond (eqb (kind_of p) 8) (FlowOutcome.Skip p.action.number)
     (cond (eqb (kind_of p) 9) (FlowOutcome.SkipAfter p.position) FlowOutcome.Continue))
@@ -75,49 +73,49 @@ last_flow ps = flow_by (last_of is_flow ps)
 
 -- 01: "1 deny, 2 block, 3 pass, 4 allow, 5 redirect, 6 drop"; 0 where there is none
 abbrev pub kind_in : Option Placed → ℕ
-kind_in none = 0
-kind_in (some p) = kind_of p
+kind_in None = 0
+kind_in (Some p) = kind_of p
 
 unfoldable pub last_disruptive_kind : List Placed → ℕ
 last_disruptive_kind ps = kind_in (last_of is_disruptive ps)
 
 -- a redirect's value is its position, where its text is found; the other kinds have none
 abbrev pub redirect_in : Option Placed → ℕ
-redirect_in none = 0
-redirect_in (some p) = cond (eqb (kind_of p) 5) p.position 0
+redirect_in None = 0
+redirect_in (Some p) = cond (eqb (kind_of p) 5) p.position 0
 
 unfoldable pub last_disruptive_value : List Placed → ℕ
 last_disruptive_value ps = redirect_in (last_of is_disruptive ps)
 
 -- 01: "7 chain, 8 skip .., 9 skipAfter, 10 multiMatch"; the last of these is read as none, 0
 abbrev pub flow_kind_in : Option Placed → ℕ
-flow_kind_in none = 0
-flow_kind_in (some p) = cond (eqb (kind_of p) 10) 0 (kind_of p)
+flow_kind_in None = 0
+flow_kind_in (Some p) = cond (eqb (kind_of p) 10) 0 (kind_of p)
 
 unfoldable pub last_flow_kind : List Placed → ℕ
 last_flow_kind ps = flow_kind_in (last_of is_flow ps)
 
 -- a skip's value is its number, a skipAfter's its position
 abbrev pub flow_value_in : Option Placed → ℕ
-flow_value_in none = 0
-flow_value_in (some p) = cond (eqb (kind_of p) 8) p.action.number (cond (eqb (kind_of p) 9) p.position 0)
+flow_value_in None = 0
+flow_value_in (Some p) = cond (eqb (kind_of p) 8) p.action.number (cond (eqb (kind_of p) 9) p.position 0)
 
 unfoldable pub last_flow_value : List Placed → ℕ
 last_flow_value ps = flow_value_in (last_of is_flow ps)
 
 -- the number, or the place, of the last action of one kind
-abbrev pub number_in : Option Placed → OptionU64
-number_in none = OptionU64.None
-number_in (some p) = OptionU64.Some p.action.number
+abbrev pub number_in : Option Placed → Option ℕ
+number_in None = None
+number_in (Some p) = Some p.action.number
 
-abbrev pub place_in : ℕ → Option Placed → OptionPlace
-place_in phase none = OptionPlace.None
-place_in phase (some p) = OptionPlace.Some (record { phase = phase; position = p.position })
+abbrev pub place_in : ℕ → Option Placed → Option Place
+place_in phase None = None
+place_in phase (Some p) = Some (record { phase = phase; position = p.position })
 
-abbrev pub last_number : ℕ → List Placed → OptionU64
+abbrev pub last_number : ℕ → List Placed → Option ℕ
 last_number kind ps = number_in (last_of (eqb kind) ps)
 
-abbrev pub last_place : ℕ → ℕ → List Placed → OptionPlace
+abbrev pub last_place : ℕ → ℕ → List Placed → Option Place
 last_place phase kind ps = place_in phase (last_of (eqb kind) ps)
 
 -- 01: "Metadata keeps the last of each kind": 11 id, 12 msg, 13 logdata, 14 rev, 15 ver, 16 severity, 17 maturity, 18 accuracy
@@ -134,7 +132,7 @@ metadata_of phase ps = record {
 }
 
 -- 20 status. 01: "a status action does nothing"; only the manual's reading asks for it.
-abbrev pub last_status : List Placed → OptionU64
+abbrev pub last_status : List Placed → Option ℕ
 last_status ps = last_number 20 ps
 
 -- 19 ctl: a rule's control actions in their order

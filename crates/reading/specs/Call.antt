@@ -1,6 +1,7 @@
 -- A phase call: what it is given, the transaction at entry, and the lists that are written. Walk, units and replay are functions of
 -- the first two.
-use Rattle.std.specs.Prelude.{ℕ, Bool, cond, List, length, get_or, eqb}
+use Rattle.std.specs.Prelude.{ℕ, Bool, cond, List, length, get_or, eqb, Option, Some, None}
+use Rattle.reading.specs.declared.Intervention.{Intervention}
 use Rattle.reading.specs.declared.RuleEngineMode.{RuleEngineMode}
 use Rattle.reading.specs.declared.CallSettings.{CallSettings}
 use Rattle.reading.specs.declared.Rule.{Rule}
@@ -8,8 +9,6 @@ use Rattle.reading.specs.declared.Action.{Action}
 use Rattle.reading.specs.declared.Marker.{Marker}
 use Rattle.reading.specs.declared.DataEntry.{DataEntry}
 use Rattle.reading.specs.declared.JournalEntry.{JournalEntry}
-use Rattle.reading.specs.declared.OptionU64.{OptionU64}
-use Rattle.reading.specs.declared.OptionIntervention.{OptionIntervention}
 use Rattle.reading.specs.Numbers.{mode_of_number}
 use Rattle.reading.specs.Controls.{Controls, mode_or}
 use Rattle.reading.specs.Actions.{Placed, actions_of}
@@ -32,7 +31,7 @@ pub record Given : Type 0 where
 pub record Transaction : Type 0 where
   pub controls : Controls
   pub allowed : Bool
-  pub intervention : OptionIntervention
+  pub intervention : Option Intervention
   pub ids : ℕ
   pub data-entries : ℕ
 
@@ -62,10 +61,10 @@ unfoldable pub is_link : Given → ℕ → Bool
 is_link g i = eqb (rule_at g i).link 1
 
 -- 01: "id (64 bits) or none"
-abbrev pub record_id : Rule → OptionU64
-record_id r = cond (eqb r.present 1) (OptionU64.Some r.id) OptionU64.None
+abbrev pub record_id : Rule → Option ℕ
+record_id r = cond (eqb r.present 1) (Some r.id) None
 
-unfoldable pub id_at : Given → ℕ → OptionU64
+unfoldable pub id_at : Given → ℕ → Option ℕ
 id_at g i = record_id (rule_at g i)
 
 unfoldable pub outcome_at : Given → ℕ → ℕ

@@ -1,41 +1,36 @@
 -- What the directives of a transaction have set (`TransactionControls`), as lists without a limit.
-use Rattle.std.specs.Prelude.{ℕ, zero, suc, Bool, true, false, not, cond, ◌&&◌, ◌||◌, List, [], ◌∷◌, ◌++◌, length, get_or, ltb, leb, eqb}
+use Rattle.std.specs.Prelude.{ℕ, zero, suc, Bool, true, false, not, cond, ◌&&◌, ◌||◌, List, [], ◌∷◌, ◌++◌, length, get_or, ltb, leb, eqb, Option, Some, None}
 use Rattle.reading.specs.Limits.{most_ranges, most_targets}
 use Rattle.reading.specs.declared.RuleEngineMode.{RuleEngineMode}
 use Rattle.reading.specs.declared.BodyAccess.{BodyAccess}
 use Rattle.reading.specs.declared.BodyProcessor.{BodyProcessor}
-use Rattle.reading.specs.declared.ModeSetting.{ModeSetting}
-use Rattle.reading.specs.declared.AccessSetting.{AccessSetting}
-use Rattle.reading.specs.declared.ProcessorSetting.{ProcessorSetting}
 use Rattle.reading.specs.declared.RuleIdRange.{RuleIdRange}
 use Rattle.reading.specs.declared.Place.{Place}
-use Rattle.reading.specs.declared.OptionU64.{OptionU64}
-use Rattle.reading.specs.declared.OptionPlace.{OptionPlace}
 use Rattle.reading.specs.Lists.{any}
 use Rattle.reading.specs.Ranges.{is_merged, add_range, add_ranges}
 use Rattle.reading.specs.Directive.{Directive, rule_engine, rule_remove_by_id, rule_remove_target_by_id, request_body_access, request_body_processor, unsupported}
 
 -- 01: "Addresses, msg and targets are likewise kept as phase and action position."
 pub record Controls : Type 0 where
-  pub mode : ModeSetting
+  pub mode : Option RuleEngineMode
   pub ranges : List RuleIdRange
   pub targets : List Place
-  pub access : AccessSetting
-  pub processor : ProcessorSetting
+  pub access : Option BodyAccess
+  pub processor : Option BodyProcessor
 
 -- nothing set
 abbrev pub no_controls : Controls
-no_controls = record { mode = ModeSetting.Unset; ranges = []; targets = []; access = AccessSetting.Unset; processor = ProcessorSetting.Unset }
+no_controls = record { mode = None; ranges = []; targets = []; access = None; processor = None }
 
 -- a mode, body access or processor set singly, which no limit refuses (docs/DECISIONS.md, D9)
 abbrev pub with_mode : Controls → RuleEngineMode → Controls
-with_mode c m = record { mode = ModeSetting.Set m; ranges = c.ranges; targets = c.targets; access = c.access; processor = c.processor }
+with_mode c m = record { mode = Some m; ranges = c.ranges; targets = c.targets; access = c.access; processor = c.processor }
 
 abbrev pub with_access : Controls → BodyAccess → Controls
-with_access c a = record { mode = c.mode; ranges = c.ranges; targets = c.targets; access = AccessSetting.Set a; processor = c.processor }
+with_access c a = record { mode = c.mode; ranges = c.ranges; targets = c.targets; access = Some a; processor = c.processor }
 
 abbrev pub with_processor : Controls → BodyProcessor → Controls
-with_processor c p = record { mode = c.mode; ranges = c.ranges; targets = c.targets; access = c.access; processor = ProcessorSetting.Set p }
+with_processor c p = record { mode = c.mode; ranges = c.ranges; targets = c.targets; access = c.access; processor = Some p }
 
 -- the same controls with other ranges, and with other targets
 abbrev pub with_ranges : Controls → List RuleIdRange → Controls
@@ -59,9 +54,9 @@ applied c at (request_body_processor p) = with_processor c p
 applied c at (unsupported r) = c
 
 -- 01: "the one set last .., else the rule set's"
-abbrev pub mode_or : RuleEngineMode → ModeSetting → RuleEngineMode
-mode_or configured ModeSetting.Unset = configured
-mode_or configured (ModeSetting.Set m) = m
+abbrev pub mode_or : RuleEngineMode → Option RuleEngineMode → RuleEngineMode
+mode_or configured None = configured
+mode_or configured (Some m) = m
 
 abbrev pub is_off : RuleEngineMode → Bool
 is_off RuleEngineMode.On = false
@@ -78,14 +73,14 @@ abbrev pub in_range : ℕ → RuleIdRange → Bool
 in_range id r = leb r.start id && leb id r.end
 
 -- 01: "A rule without an id is never removed."
-unfoldable pub is_removed : List RuleIdRange → OptionU64 → Bool
-is_removed ranges OptionU64.None = false
-is_removed ranges (OptionU64.Some id) = any (in_range id) ranges
+unfoldable pub is_removed : List RuleIdRange → Option ℕ → Bool
+is_removed ranges None = false
+is_removed ranges (Some id) = any (in_range id) ranges
 
 -- 01: "Body access is on until set."
-abbrev pub access_of : AccessSetting → BodyAccess
-access_of AccessSetting.Unset = BodyAccess.On
-access_of (AccessSetting.Set a) = a
+abbrev pub access_of : Option BodyAccess → BodyAccess
+access_of None = BodyAccess.On
+access_of (Some a) = a
 
 -- 01: "Struct with arrays of start and end numbers and their count": the list of so many entries that two arrays stand for
 abbrev pub pair_list : {A : Type 0} → (ℕ → ℕ → A) → ℕ → List ℕ → List ℕ → List A
@@ -119,25 +114,25 @@ asked c value other = cond (bad_controls c) (record { answer = 3; value = other 
 abbrev pub ask_mode : RuleEngineMode → Controls → Asked RuleEngineMode
 ask_mode configured c = asked c (mode_or configured c.mode) configured
 
-abbrev pub ask_removed : Controls → OptionU64 → Asked Bool
+abbrev pub ask_removed : Controls → Option ℕ → Asked Bool
 ask_removed c id = asked c (is_removed c.ranges id) false
 
 abbrev pub ask_target_count : Controls → Asked ℕ
 ask_target_count c = asked c (length c.targets) 0
 
-abbrev pub place_at : List Place → ℕ → OptionPlace
-place_at [] k = OptionPlace.None
-place_at (p ∷ ps) zero = OptionPlace.Some p
+abbrev pub place_at : List Place → ℕ → Option Place
+place_at [] k = None
+place_at (p ∷ ps) zero = Some p
 place_at (p ∷ ps) (suc k) = place_at ps k
 
-abbrev pub ask_target : Controls → ℕ → Asked OptionPlace
-ask_target c k = asked c (place_at c.targets k) OptionPlace.None
+abbrev pub ask_target : Controls → ℕ → Asked (Option Place)
+ask_target c k = asked c (place_at c.targets k) None
 
 abbrev pub ask_access : Controls → Asked BodyAccess
 ask_access c = asked c (access_of c.access) BodyAccess.On
 
-abbrev pub ask_processor : Controls → Asked ProcessorSetting
-ask_processor c = asked c c.processor ProcessorSetting.Unset
+abbrev pub ask_processor : Controls → Asked (Option BodyProcessor)
+ask_processor c = asked c c.processor None
 
 -- 01: "a range or target added singly gives 3, 5 (start above end), then 8 or 9"; 02: 8 counts the ranges held "plus one when added
 -- singly", whether or not the range would merge

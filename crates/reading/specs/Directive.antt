@@ -1,5 +1,5 @@
 -- The ctl directive: its supported forms and values (`CtlDirective::parse`), and what the directive reader answers.
-use Rattle.std.specs.Prelude.{ℕ, min, Bool, true, false, cond, ◌||◌, List, [], ◌∷◌, map, length, ltb, leb, eqb}
+use Rattle.std.specs.Prelude.{ℕ, min, Bool, true, false, cond, ◌||◌, List, [], ◌∷◌, map, length, ltb, leb, eqb, Option, Some, None}
 use Rattle.reading.specs.Limits.{most_bytes}
 use Rattle.reading.specs.declared.RuleEngineMode.{RuleEngineMode}
 use Rattle.reading.specs.declared.BodyAccess.{BodyAccess}
@@ -7,7 +7,6 @@ use Rattle.reading.specs.declared.BodyProcessor.{BodyProcessor}
 use Rattle.reading.specs.declared.RuleIdRange.{RuleIdRange}
 use Rattle.reading.specs.declared.UnsupportedReason.{UnsupportedReason}
 use Rattle.reading.specs.declared.CtlDirective.{CtlDirective}
-use Rattle.reading.specs.declared.OptionDirective.{OptionDirective}
 use Rattle.reading.specs.Lists.{any, keep, over}
 use Rattle.reading.specs.Text.{ascii, same, trim, fold, holds_byte, index_of, cut_before, cut_after, id_parts, any_bad, ranges_in}
 
@@ -158,7 +157,7 @@ end_of r = r.end
 -- and so no reason (docs/DECISIONS.md, D174).
 pub record ReaderOutcome : Type 0 where
   pub answer : ℕ
-  pub directive : OptionDirective
+  pub directive : Option CtlDirective
   pub starts : List ℕ
   pub ends : List ℕ
 
@@ -169,7 +168,7 @@ reader_outcome name value starts ends =
     let new = keep (eqb answer 0) (ranges_of d) in
     record {
       answer = answer;
-      directive = cond (eqb answer 0) (OptionDirective.Some (without_lists value d)) OptionDirective.None;
+      directive = cond (eqb answer 0) (Some (without_lists value d)) None;
       starts = over starts (map start_of new);
       ends = over ends (map end_of new);
     }

@@ -2,13 +2,11 @@
 -- stated as recalled: it was not at hand. docs/DIFFERENCES.md lists the pairs. What the two read alike has one definition,
 -- in the files above: both ends of a range are removed; the last disruptive action wins; flow, disruptive action and
 -- metadata are the chain starter's and wait for the whole chain; a chain matches where all its rules do.
-use Rattle.std.specs.Prelude.{ℕ, zero, suc, ◌+◌, Bool, true, not, cond, ◌&&◌, ◌||◌, List, [], ◌∷◌, ◌++◌, ltb, leb, eqb}
+use Rattle.std.specs.Prelude.{ℕ, zero, suc, ◌+◌, Bool, true, not, cond, ◌&&◌, ◌||◌, List, [], ◌∷◌, ◌++◌, ltb, leb, eqb, Option, Some, None}
 use Rattle.reading.specs.declared.RuleEngineMode.{RuleEngineMode}
-use Rattle.reading.specs.declared.OptionU64.{OptionU64}
 use Rattle.reading.specs.declared.DisruptiveOutcome.{DisruptiveOutcome}
 use Rattle.reading.specs.declared.FlowOutcome.{FlowOutcome}
 use Rattle.reading.specs.declared.IdPart.{IdPart}
-use Rattle.reading.specs.declared.Number.{Number}
 use Rattle.reading.specs.declared.Rule.{Rule}
 use Rattle.reading.specs.Lists.{any}
 use Rattle.reading.specs.Text.{ascii, same, trim, fold, digits, id_part}
@@ -29,20 +27,20 @@ manual_jumps position after = leb after position
 
 -- skipAfter. The manual: the name may also be the id of a rule, and processing goes on with the first rule that follows that
 -- rule. The position after the first of the rules with an id, where so many rules stand before them:
-unfoldable pub after_rule : ℕ → ℕ → List Rule → OptionU64
-after_rule id before [] = OptionU64.None
-after_rule id before (r ∷ rs) = cond (eqb r.present 1 && eqb r.id id) (OptionU64.Some (suc before)) (after_rule id (suc before) rs)
+unfoldable pub after_rule : ℕ → ℕ → List Rule → Option ℕ
+after_rule id before [] = None
+after_rule id before (r ∷ rs) = cond (eqb r.present 1 && eqb r.id id) (Some (suc before)) (after_rule id (suc before) rs)
 
-abbrev pub manual_rule_named : List Rule → Number → OptionU64
-manual_rule_named rules (Number.Value id) = after_rule id 0 rules
-manual_rule_named rules Number.Bad = OptionU64.None
+abbrev pub manual_rule_named : List Rule → Option ℕ → Option ℕ
+manual_rule_named rules (Some id) = after_rule id 0 rules
+manual_rule_named rules None = None
 
 -- a marker of that name comes before a rule (our choice: the manual is silent)
-abbrev pub manual_target : Given → List ℕ → OptionU64
+abbrev pub manual_target : Given → List ℕ → Option ℕ
 manual_target g name = later (marker_position g.text g.markers name) (manual_rule_named g.rules (digits name))
 
 -- 01: "For a repeated marker name the latest record decides."
-abbrev pub rust_target : Given → List ℕ → OptionU64
+abbrev pub rust_target : Given → List ℕ → Option ℕ
 rust_target g name = marker_position g.text g.markers name
 
 -- skip. The manual: skips one or more rules, or chains. From the index after the closing rule:
@@ -63,12 +61,12 @@ abbrev pub rust_acts : RuleEngineMode → DisruptiveOutcome → Bool
 rust_acts mode d = is_allow d || is_stopping d && is_on mode
 
 -- redirect. The manual: a status action of 301, 302, 303 or 307 on the same rule is used, and else 302.
-abbrev pub manual_redirect_status : OptionU64 → ℕ
-manual_redirect_status OptionU64.None = 302
-manual_redirect_status (OptionU64.Some status) = cond (eqb status 301 || eqb status 303 || eqb status 307) status 302
+abbrev pub manual_redirect_status : Option ℕ → ℕ
+manual_redirect_status None = 302
+manual_redirect_status (Some status) = cond (eqb status 301 || eqb status 303 || eqb status 307) status 302
 
 -- 01: "Redirect has status 302"
-abbrev pub rust_redirect_status : OptionU64 → ℕ
+abbrev pub rust_redirect_status : Option ℕ → ℕ
 rust_redirect_status last = 302
 
 -- chain. The manual: a non-disruptive action, ctl among them, is executed if the rule that contains it matches, and not

@@ -1,18 +1,14 @@
 -- The papers' number of each case of an enum.
-use Rattle.std.specs.Prelude.{ℕ, cond, List, [], ◌∷◌, eqb}
+use Rattle.std.specs.Prelude.{ℕ, cond, List, [], ◌∷◌, eqb, Option, Some, None, Result, Ok, Err}
 use Rattle.reading.specs.declared.RuleEngineMode.{RuleEngineMode}
 use Rattle.reading.specs.declared.BodyAccess.{BodyAccess}
 use Rattle.reading.specs.declared.BodyProcessor.{BodyProcessor}
-use Rattle.reading.specs.declared.ModeSetting.{ModeSetting}
-use Rattle.reading.specs.declared.AccessSetting.{AccessSetting}
-use Rattle.reading.specs.declared.ProcessorSetting.{ProcessorSetting}
 use Rattle.reading.specs.declared.Verdict.{Verdict}
+use Rattle.reading.specs.declared.Refusal.{Refusal}
 use Rattle.reading.specs.declared.DisruptiveOutcome.{DisruptiveOutcome}
 use Rattle.reading.specs.declared.FlowOutcome.{FlowOutcome}
 use Rattle.reading.specs.declared.UnsupportedReason.{UnsupportedReason}
 use Rattle.reading.specs.declared.CtlDirective.{CtlDirective}
-use Rattle.reading.specs.declared.OptionDirective.{OptionDirective}
-use Rattle.reading.specs.declared.OptionU64.{OptionU64}
 
 -- 01: "0 (On), 1 (DetectionOnly) or 2 (Off)"
 abbrev pub mode_number : RuleEngineMode → ℕ
@@ -74,6 +70,23 @@ reason_number UnsupportedReason.Processor = 5
 reason_number UnsupportedReason.Audit = 6
 reason_number UnsupportedReason.Unrecognised = 7
 
+-- 01: "Number and order agree", from 1, an unknown phase or mode, to 9, too many targets
+abbrev pub refusal_number : Refusal → ℕ
+refusal_number Refusal.Settings = 1
+refusal_number Refusal.TooLarge = 2
+refusal_number Refusal.Counts = 3
+refusal_number Refusal.Outcomes = 4
+refusal_number Refusal.Record = 5
+refusal_number Refusal.HighByte = 6
+refusal_number Refusal.NoRoom = 7
+refusal_number Refusal.Ranges = 8
+refusal_number Refusal.Targets = 9
+
+-- "the first that applies is the answer, else 0"
+abbrev pub answer_number : {A : Type 0} → Result A Refusal → ℕ
+answer_number (Ok x) = 0
+answer_number (Err refusal) = refusal_number refusal
+
 -- The papers give no number to the cases below; these are ours (docs/DECISIONS.md, D12).
 abbrev pub access_number : BodyAccess → ℕ
 access_number BodyAccess.On = 0
@@ -86,17 +99,17 @@ processor_number BodyProcessor.Json = 2
 processor_number BodyProcessor.Xml = 3
 
 -- a setting: 0 where it is not set, else one more than the value's number
-abbrev pub mode_setting_number : ModeSetting → ℕ
-mode_setting_number ModeSetting.Unset = 0
-mode_setting_number (ModeSetting.Set m) = ℕ.suc (mode_number m)
+abbrev pub mode_setting_number : Option RuleEngineMode → ℕ
+mode_setting_number None = 0
+mode_setting_number (Some m) = ℕ.suc (mode_number m)
 
-abbrev pub access_setting_number : AccessSetting → ℕ
-access_setting_number AccessSetting.Unset = 0
-access_setting_number (AccessSetting.Set a) = ℕ.suc (access_number a)
+abbrev pub access_setting_number : Option BodyAccess → ℕ
+access_setting_number None = 0
+access_setting_number (Some a) = ℕ.suc (access_number a)
 
-abbrev pub processor_setting_number : ProcessorSetting → ℕ
-processor_setting_number ProcessorSetting.Unset = 0
-processor_setting_number (ProcessorSetting.Set p) = ℕ.suc (processor_number p)
+abbrev pub processor_setting_number : Option BodyProcessor → ℕ
+processor_setting_number None = 0
+processor_setting_number (Some p) = ℕ.suc (processor_number p)
 
 -- a directive's form
 abbrev pub directive_number : CtlDirective → ℕ
@@ -117,23 +130,23 @@ directive_value (CtlDirective.RequestBodyAccess a) = access_number a
 directive_value (CtlDirective.RequestBodyProcessor p) = processor_number p
 
 -- where nothing was read both are 0, which is no reason's number (docs/DECISIONS.md, D174)
-abbrev pub read_number : OptionDirective → ℕ
-read_number OptionDirective.None = 0
-read_number (OptionDirective.Some d) = directive_number d
+abbrev pub read_number : Option CtlDirective → ℕ
+read_number None = 0
+read_number (Some d) = directive_number d
 
-abbrev pub read_value : OptionDirective → ℕ
-read_value OptionDirective.None = 0
-read_value (OptionDirective.Some d) = directive_value d
+abbrev pub read_value : Option CtlDirective → ℕ
+read_value None = 0
+read_value (Some d) = directive_value d
 
 -- a number or none: whether there is one, and the number
-abbrev pub present_number : OptionU64 → ℕ
-present_number OptionU64.None = 0
-present_number (OptionU64.Some n) = 1
+abbrev pub present_number : Option ℕ → ℕ
+present_number None = 0
+present_number (Some n) = 1
 
-abbrev pub number_or_zero : OptionU64 → ℕ
-number_or_zero OptionU64.None = 0
-number_or_zero (OptionU64.Some n) = n
+abbrev pub number_or_zero : Option ℕ → ℕ
+number_or_zero None = 0
+number_or_zero (Some n) = n
 
-abbrev pub list_of : OptionU64 → List ℕ
-list_of OptionU64.None = []
-list_of (OptionU64.Some n) = n ∷ []
+abbrev pub list_of : Option ℕ → List ℕ
+list_of None = []
+list_of (Some n) = n ∷ []

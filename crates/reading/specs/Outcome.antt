@@ -1,6 +1,6 @@
 -- The whole outcome of a phase call, refused or not, from the call alone.
-use Rattle.std.specs.Prelude.{ℕ, ◌+◌, cond, ◌||◌, List, ◌++◌, length, take, drop}
-use Rattle.reading.specs.declared.OptionIntervention.{OptionIntervention}
+use Rattle.std.specs.Prelude.{ℕ, ◌+◌, cond, ◌||◌, List, ◌++◌, length, take, drop, Option, Some, None}
+use Rattle.reading.specs.declared.Intervention.{Intervention}
 use Rattle.reading.specs.declared.Report.{Report}
 use Rattle.reading.specs.Lists.{keep, over}
 use Rattle.reading.specs.Call.{Given, Call, Transaction, Lists}
@@ -17,9 +17,9 @@ visits_of q = keep (is_accepted q) (walk_of q.given q.transaction)
 abbrev pub at_free_end : {A : Type 0} → ℕ → List A → List A → List A
 at_free_end used found new = take used found ++ over (drop used found) new
 
-abbrev pub if_none : OptionIntervention → OptionIntervention → OptionIntervention
-if_none OptionIntervention.None held = held
-if_none (OptionIntervention.Some i) held = OptionIntervention.Some i
+abbrev pub if_none : Option Intervention → Option Intervention → Option Intervention
+if_none None held = held
+if_none (Some i) held = Some i
 
 pub record Outcome : Type 0 where
   -- 0, 10, or the number of a refusal, and the index of the rule that had the error

@@ -1,6 +1,5 @@
 -- What the two readings of a rule set differ in: the Rust's, and the one that follows the manual (02, A.4).
-use Rattle.std.specs.Prelude.{ℕ, Bool, true, false, ◌&&◌, ◌||◌, ltb, eqb}
-use Rattle.reading.specs.declared.OptionU64.{OptionU64}
+use Rattle.std.specs.Prelude.{ℕ, Bool, true, false, ◌&&◌, ◌||◌, ltb, eqb, Option, Some, None}
 
 pub record Reading : Type 0 where
   -- whether a marker at the index after the closing rule, so directly after it, is jumped to
@@ -8,7 +7,7 @@ pub record Reading : Type 0 where
   -- whether a removed rule that is not a link breaks an open chain
   pub breaks : Bool
   -- the status of deny, given the number of the starter's last status action, if any
-  pub status : OptionU64 → ℕ
+  pub status : Option ℕ → ℕ
 
 -- whether a marker is jumped to, given its position and the index after the closing rule
 abbrev pub jumps : Reading → ℕ → ℕ → Bool
@@ -25,7 +24,7 @@ abbrev pub rust_breaks : Bool
 rust_breaks = false
 
 -- 01: "Deny is 403; a status action does nothing."
-abbrev pub rust_status : OptionU64 → ℕ
+abbrev pub rust_status : Option ℕ → ℕ
 rust_status last = 403
 
 -- THE MANUAL'S READING
@@ -41,9 +40,9 @@ manual_breaks = true
 
 -- The manual, status: the status code of the response that deny gives. 02: "deny has the starter's last status action as
 -- its status, and 403 without one"
-abbrev pub manual_status : OptionU64 → ℕ
-manual_status OptionU64.None = 403
-manual_status (OptionU64.Some status) = status
+abbrev pub manual_status : Option ℕ → ℕ
+manual_status None = 403
+manual_status (Some status) = status
 
 -- THE TWO INSTANCES
 

@@ -1,8 +1,8 @@
 -- Demand 3: what a journal's closed units give, from its entries, what the call was given and the transaction at entry alone. The walk is not mentioned.
-use Rattle.std.specs.Prelude.{ℕ, Bool, not, cond, ◌&&◌, List, [], ◌∷◌, ◌++◌, eqb}
+use Rattle.std.specs.Prelude.{ℕ, Bool, not, cond, ◌&&◌, List, [], ◌∷◌, ◌++◌, eqb, Option, Some, None}
+use Rattle.reading.specs.declared.Intervention.{Intervention}
 use Rattle.reading.specs.declared.JournalEntry.{JournalEntry}
 use Rattle.reading.specs.declared.DataEntry.{DataEntry}
-use Rattle.reading.specs.declared.OptionIntervention.{OptionIntervention}
 use Rattle.reading.specs.Lists.{keep, any, gather}
 use Rattle.reading.specs.Controls.{Controls, is_on}
 use Rattle.reading.specs.Call.{Given, Transaction, is_link, mode_under}
@@ -47,12 +47,12 @@ abbrev pub unit_allows : Given → List ℕ → Bool
 unit_allows g unit = is_allow (unit_disruptive g unit)
 
 -- the intervention of a unit, with the controls after it
-abbrev pub unit_stop : Given → List ℕ → Controls → OptionIntervention
+abbrev pub unit_stop : Given → List ℕ → Controls → Option Intervention
 unit_stop g unit c =
-    cond (is_stopping (unit_disruptive g unit) && is_on (mode_under g c)) (OptionIntervention.Some (unit_intervention g unit)) OptionIntervention.None
+    cond (is_stopping (unit_disruptive g unit) && is_on (mode_under g c)) (Some (unit_intervention g unit)) None
 
-abbrev pub stop_of : Given → List (List ℕ) → Controls → OptionIntervention
-stop_of g [] c = OptionIntervention.None
+abbrev pub stop_of : Given → List (List ℕ) → Controls → Option Intervention
+stop_of g [] c = None
 stop_of g (u ∷ us) c = unit_stop g u c
 
 -- WHAT A JOURNAL GIVES
@@ -72,5 +72,5 @@ replayed_allow g journal = any (unit_allows g) (units_of g journal)
 -- "exactly when the last visit closed a unit whose starter's last disruptive action is deny, block, redirect or drop, with
 -- mode On after that unit's controls; it is then the one 01 builds from that unit". The last visit's unit is the last
 -- unit, so the controls after it are those after all units (`last-closed-is-last` in crates/theorems).
-abbrev pub replayed_intervention : Given → Transaction → List JournalEntry → OptionIntervention
+abbrev pub replayed_intervention : Given → Transaction → List JournalEntry → Option Intervention
 replayed_intervention g t journal = stop_of g (last_closed g journal) (replayed_controls g t journal)

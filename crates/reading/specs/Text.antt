@@ -1,8 +1,7 @@
 -- Texts: blanks, trimming, folding, numbers, and lists of id ranges. A text is a list of bytes, each a number below 256.
-use Rattle.std.specs.Prelude.{ℕ, suc, ◌+◌, ◌-◌, ◌*◌, Bool, true, false, cond, ◌&&◌, ◌||◌, List, [], ◌∷◌, ◌++◌, map, length, take, drop, leb, ltb, eqb}
+use Rattle.std.specs.Prelude.{ℕ, suc, ◌+◌, ◌-◌, ◌*◌, Bool, true, false, cond, ◌&&◌, ◌||◌, List, [], ◌∷◌, ◌++◌, map, length, take, drop, leb, ltb, eqb, Option, Some, None}
 use Prim.Native.Char.{code}
 use Prim.Native.String.{String}
-use Rattle.reading.specs.declared.Number.{Number}
 use Rattle.reading.specs.declared.RuleIdRange.{RuleIdRange}
 use Rattle.reading.specs.declared.IdPart.{IdPart}
 use Rattle.reading.specs.declared.Part.{Part}
@@ -70,18 +69,18 @@ abbrev pub largest : ℕ
 largest = 18446744073709551615
 
 -- "one or more digits, at most 18446744073709551615"; the count of digits has no limit
-unfoldable pub digits : List ℕ → Number
-digits [] = Number.Bad
+unfoldable pub digits : List ℕ → Option ℕ
+digits [] = None
 digits (d ∷ ds) =
     let v = value_from 0 (d ∷ ds) in
-    cond (all_digits (d ∷ ds) && leb v largest) (Number.Value v) Number.Bad
+    cond (all_digits (d ∷ ds) && leb v largest) (Some v) None
 
 unfoldable pub without_plus : List ℕ → List ℕ
 without_plus [] = []
 without_plus (b ∷ bs) = cond (eqb b 43) bs (b ∷ bs)
 
 -- 01: "A number is an optional "+" and one or more digits, at most 18446744073709551615."
-unfoldable pub number_of : List ℕ → Number
+unfoldable pub number_of : List ℕ → Option ℕ
 number_of s = digits (without_plus s)
 
 -- where a byte stands first; the length where it does not stand at all
@@ -110,18 +109,18 @@ split_on b [] = [] ∷ []
 split_on b (x ∷ xs) = cond (eqb x b) ([] ∷ split_on b xs) (on_first x (split_on b xs))
 
 -- 01: "A part is a number"
-unfoldable pub one_id : Number → IdPart
-one_id (Number.Value n) = IdPart.Range (record { start = n; end = n })
-one_id Number.Bad = IdPart.Bad
+unfoldable pub one_id : Option ℕ → IdPart
+one_id (Some n) = IdPart.Range (record { start = n; end = n })
+one_id None = IdPart.Bad
 
 -- "start above end" is bad
-unfoldable pub ids_to : ℕ → Number → IdPart
-ids_to start (Number.Value end) = cond (leb start end) (IdPart.Range (record { start = start; end = end })) IdPart.Bad
-ids_to start Number.Bad = IdPart.Bad
+unfoldable pub ids_to : ℕ → Option ℕ → IdPart
+ids_to start (Some end) = cond (leb start end) (IdPart.Range (record { start = start; end = end })) IdPart.Bad
+ids_to start None = IdPart.Bad
 
-unfoldable pub ids_from : Number → Number → IdPart
-ids_from (Number.Value start) end = ids_to start end
-ids_from Number.Bad end = IdPart.Bad
+unfoldable pub ids_from : Option ℕ → Option ℕ → IdPart
+ids_from (Some start) end = ids_to start end
+ids_from None end = IdPart.Bad
 
 -- 01: "A part is a number, or two numbers around its first "-", each trimmed." The part is trimmed; "-" is 2D.
 abbrev pub trimmed_part : List ℕ → IdPart

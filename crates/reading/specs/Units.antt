@@ -1,9 +1,8 @@
 -- What a closed unit gives, from its members and the call. A unit is the list of its members' indexes, in order.
 -- 01: "A unit is the matched links since the last break, then a matched rule that is not a link; its first member is the starter."
-use Rattle.std.specs.Prelude.{ℕ, Bool, true, false, cond, List, [], ◌∷◌, ◌++◌, eqb}
-use Rattle.reading.specs.declared.OptionU64.{OptionU64}
+use Rattle.std.specs.Prelude.{ℕ, Bool, true, false, cond, List, [], ◌∷◌, ◌++◌, eqb, Option, Some, None}
+use Rattle.reading.specs.declared.Place.{Place}
 use Rattle.reading.specs.declared.RuleIdRange.{RuleIdRange}
-use Rattle.reading.specs.declared.OptionPlace.{OptionPlace}
 use Rattle.reading.specs.declared.DataEntry.{DataEntry}
 use Rattle.reading.specs.declared.DisruptiveOutcome.{DisruptiveOutcome}
 use Rattle.reading.specs.declared.FlowOutcome.{FlowOutcome}
@@ -31,9 +30,9 @@ abbrev pub unit_ids : Given → List ℕ → List ℕ
 unit_ids g unit = list_of (id_at g (starter_of unit))
 
 -- 01: "own id, else the starter's, else none"
-abbrev pub own_or : OptionU64 → OptionU64 → OptionU64
-own_or OptionU64.None starter = starter
-own_or (OptionU64.Some own) starter = OptionU64.Some own
+abbrev pub own_or : Option ℕ → Option ℕ → Option ℕ
+own_or None starter = starter
+own_or (Some own) starter = Some own
 
 -- 01: "Data entry: id or none, phase, rule index"
 abbrev pub data_entry : Given → ℕ → ℕ → DataEntry
@@ -119,20 +118,20 @@ drops (DisruptiveOutcome.Redirect at) = false
 drops DisruptiveOutcome.Drop = true
 
 -- 01: "Addresses .. are likewise kept as phase and action position."
-abbrev pub address_of : ℕ → DisruptiveOutcome → OptionPlace
-address_of phase DisruptiveOutcome.Nothing = OptionPlace.None
-address_of phase DisruptiveOutcome.Deny = OptionPlace.None
-address_of phase DisruptiveOutcome.Block = OptionPlace.None
-address_of phase DisruptiveOutcome.Pass = OptionPlace.None
-address_of phase DisruptiveOutcome.Allow = OptionPlace.None
-address_of phase (DisruptiveOutcome.Redirect at) = OptionPlace.Some (record { phase = phase; position = at })
-address_of phase DisruptiveOutcome.Drop = OptionPlace.None
+abbrev pub address_of : ℕ → DisruptiveOutcome → Option Place
+address_of phase DisruptiveOutcome.Nothing = None
+address_of phase DisruptiveOutcome.Deny = None
+address_of phase DisruptiveOutcome.Block = None
+address_of phase DisruptiveOutcome.Pass = None
+address_of phase DisruptiveOutcome.Allow = None
+address_of phase (DisruptiveOutcome.Redirect at) = Some (record { phase = phase; position = at })
+address_of phase DisruptiveOutcome.Drop = None
 
 -- "then the starter's metadata id, if any and different"
-abbrev pub if_different : OptionU64 → OptionU64 → OptionU64
-if_different OptionU64.None id = id
-if_different (OptionU64.Some n) OptionU64.None = OptionU64.None
-if_different (OptionU64.Some n) (OptionU64.Some id) = cond (eqb n id) OptionU64.None (OptionU64.Some id)
+abbrev pub if_different : Option ℕ → Option ℕ → Option ℕ
+if_different None id = id
+if_different (Some n) None = None
+if_different (Some n) (Some id) = cond (eqb n id) None (Some id)
 
 -- 01: "The id list holds the closing rule's id, if any, then the starter's metadata id, if any and different. The log is
 -- the starter's msg; the starter's metadata and the phase are held too."

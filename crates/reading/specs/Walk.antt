@@ -1,14 +1,12 @@
 -- Demand 2's walk: the visits of a phase, from what the call was given and the transaction at entry alone.
-use Rattle.std.specs.Prelude.{ℕ, zero, suc, ◌+◌, Bool, true, false, not, cond, ◌&&◌, ◌||◌, List, [], ◌∷◌, ◌++◌, drop, get_or, ltb, eqb}
+use Rattle.std.specs.Prelude.{ℕ, zero, suc, ◌+◌, Bool, true, false, not, cond, ◌&&◌, ◌||◌, List, [], ◌∷◌, ◌++◌, drop, get_or, ltb, eqb, Option, Some, None}
 use Rattle.reading.specs.declared.Verdict.{Verdict}
 use Rattle.reading.specs.declared.Rule.{Rule}
 use Rattle.reading.specs.declared.Action.{Action}
-use Rattle.reading.specs.declared.OptionU64.{OptionU64}
 use Rattle.reading.specs.declared.RuleIdRange.{RuleIdRange}
 use Rattle.reading.specs.declared.DisruptiveOutcome.{DisruptiveOutcome}
 use Rattle.reading.specs.declared.FlowOutcome.{FlowOutcome}
 use Rattle.reading.specs.declared.Intervention.{Intervention}
-use Rattle.reading.specs.declared.OptionIntervention.{OptionIntervention}
 use Rattle.reading.specs.declared.JournalEntry.{JournalEntry}
 use Rattle.reading.specs.declared.DataEntry.{DataEntry}
 use Rattle.reading.specs.Lists.{keep, gather}
@@ -65,9 +63,9 @@ after_chain g i = i + chain_rest (drop i g.rules)
 
 -- 01: "skipAfter goes to the marker only if its position is greater than the index after the closing rule [the reading
 -- says which]; otherwise the phase's rest is passed."
-abbrev pub jump_from : Given → ℕ → OptionU64 → ℕ
-jump_from g after OptionU64.None = rule_count g
-jump_from g after (OptionU64.Some position) = cond (jumps g.reading position after) position (rule_count g)
+abbrev pub jump_from : Given → ℕ → Option ℕ → ℕ
+jump_from g after None = rule_count g
+jump_from g after (Some position) = cond (jumps g.reading position after) position (rule_count g)
 
 -- what stands where there is no action: no position of a rule's action is such
 abbrev pub no_action : Action
@@ -146,9 +144,9 @@ walk (suc k) g st =
     let rest = walk k g v.after in
     keep (is_visited g st) (v ∷ keep (not (is_last v.ending)) rest)
 
-abbrev pub is_stopped : OptionIntervention → Bool
-is_stopped OptionIntervention.None = false
-is_stopped (OptionIntervention.Some i) = true
+abbrev pub is_stopped : Option Intervention → Bool
+is_stopped None = false
+is_stopped (Some i) = true
 
 -- 01: "Nothing is done if already allowed or stopped, if the mode is Off, or if there are no rules."
 abbrev pub nothing_to_do : Given → Transaction → Bool
@@ -206,14 +204,14 @@ allowed_by [] = false
 allowed_by (v ∷ vs) = gives_allow v.ending || allowed_by vs
 
 -- the intervention that an ending gives, else the other
-abbrev pub intervention_or : Ending → OptionIntervention → OptionIntervention
+abbrev pub intervention_or : Ending → Option Intervention → Option Intervention
 intervention_or goes_on other = other
 intervention_or allows other = other
 intervention_or errs other = other
-intervention_or (stops i) other = OptionIntervention.Some i
+intervention_or (stops i) other = Some i
 
-abbrev pub intervention_by : List Visit → OptionIntervention
-intervention_by [] = OptionIntervention.None
+abbrev pub intervention_by : List Visit → Option Intervention
+intervention_by [] = None
 intervention_by (v ∷ vs) = intervention_or v.ending (intervention_by vs)
 
 abbrev pub is_error : Ending → Bool

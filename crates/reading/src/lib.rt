@@ -1,8 +1,11 @@
 // The enums and structs that the definitions in specs/ and the code of the crates above share.
-// There is no function here. Lists are lent as records of plain numbers: what such a record may hold
-// is refusal 5's matter, so an unknown number is a value like any other.
+// Lists are lent as records of plain numbers, for C lends them so: what such a record may hold is refusal
+// 5's matter, so an unknown number is a value like any other.
 #![tactic(auto)]
 
+ghost use Rattle.std.specs.Prelude.{◌≡◌};
+
+// Numbers and no enum: C lends a kind as one, and the definitions give every number a meaning.
 pub mod kinds;
 pub mod limits;
 pub mod widths;
@@ -31,39 +34,37 @@ pub enum BodyProcessor {
     Xml,
 }
 
-// A mode that a directive set, or none.
+// Why a call is refused: 01's list, with its numbers.
 #[derive(Clone, Copy)]
-pub enum ModeSetting {
-    Unset,
-    Set(RuleEngineMode),
+pub enum Refusal {
+    // The phase, or the rule set's mode, is none that there is.
+    Settings = 1,
+    // More rules, actions, markers or text bytes than a call may have.
+    TooLarge = 2,
+    // The controls are beyond their limits or not in the merged form, or a list is shorter than what is counted of it.
+    Counts = 3,
+    // Not as many outcomes as rules.
+    Outcomes = 4,
+    // A record holds what no record may.
+    Record = 5,
+    // A text has a byte of 80 (hexadecimal) or more.
+    HighByte = 6,
+    // A list has too few free entries.
+    NoRoom = 7,
+    // More ranges than a transaction may hold.
+    Ranges = 8,
+    // More targets than it may hold.
+    Targets = 9,
 }
 
-// A body access that a directive set, or none.
-#[derive(Clone, Copy)]
-pub enum AccessSetting {
-    Unset,
-    Set(BodyAccess),
-}
+impl Refusal {
+    ghost use Rattle.reading.specs.Numbers.{refusal_number};
 
-// A body processor that a directive set, or none.
-#[derive(Clone, Copy)]
-pub enum ProcessorSetting {
-    Unset,
-    Set(BodyProcessor),
-}
-
-// A number or none: an id, a severity, a marker's position.
-#[derive(Clone, Copy)]
-pub enum OptionU64 {
-    None,
-    Some(u64),
-}
-
-// A number read from a text.
-#[derive(Clone, Copy)]
-pub enum Number {
-    Bad,
-    Value(u64),
+    pub fn number(self) -> u64
+        ensures { result ≡ refusal_number self }
+    {
+        self as u64
+    }
 }
 
 // Removed ids from `start` to `end`, both included.
@@ -73,7 +74,7 @@ pub struct RuleIdRange {
     pub end: u64,
 }
 
-// One part of a list of id ranges, between two commas.
+// One part of a list of id ranges, between two commas. An enum of its own: `Result` around `Option` would not be plainer.
 #[derive(Clone, Copy)]
 pub enum IdPart {
     Blank,
@@ -108,13 +109,6 @@ pub enum CtlDirective {
     Unsupported(UnsupportedReason),
 }
 
-// A directive that was read, or none: a refused call of the reader has none, and so no reason.
-#[derive(Clone, Copy)]
-pub enum OptionDirective {
-    None,
-    Some(CtlDirective),
-}
-
 // A part of a lent text.
 #[repr(C)]
 #[derive(Clone, Copy)]
@@ -130,12 +124,6 @@ pub struct Part {
 pub struct Place {
     pub phase: u64,
     pub position: u64,
-}
-
-#[derive(Clone, Copy)]
-pub enum OptionPlace {
-    None,
-    Some(Place),
 }
 
 // The numbers that a call is given: the phase, the rule set's mode, and the caller's default status, which a block has.
@@ -269,14 +257,14 @@ pub enum FlowOutcome {
 // A rule's metadata (`RuleMetadata`): the last of each kind.
 #[derive(Clone, Copy)]
 pub struct RuleMetadata {
-    pub id: OptionU64,
-    pub msg: OptionPlace,
-    pub logdata: OptionPlace,
-    pub rev: OptionPlace,
-    pub ver: OptionPlace,
-    pub severity: OptionU64,
-    pub maturity: OptionU64,
-    pub accuracy: OptionU64,
+    pub id: Option<u64>,
+    pub msg: Option<Place>,
+    pub logdata: Option<Place>,
+    pub rev: Option<Place>,
+    pub ver: Option<Place>,
+    pub severity: Option<u64>,
+    pub maturity: Option<u64>,
+    pub accuracy: Option<u64>,
 }
 
 // What stops a request (`Intervention`). Its id list is `closing`, the closing rule's id, and then
@@ -284,17 +272,11 @@ pub struct RuleMetadata {
 #[derive(Clone, Copy)]
 pub struct Intervention {
     pub status: u64,
-    pub url: OptionPlace,
-    pub log: OptionPlace,
-    pub closing: OptionU64,
-    pub starter: OptionU64,
+    pub url: Option<Place>,
+    pub log: Option<Place>,
+    pub closing: Option<u64>,
+    pub starter: Option<u64>,
     pub phase: u64,
     pub drop: bool,
     pub metadata: RuleMetadata,
-}
-
-#[derive(Clone, Copy)]
-pub enum OptionIntervention {
-    None,
-    Some(Intervention),
 }

@@ -1,3 +1,2 @@
--- Laws on plain lists and numbers, for the proofs of the functions.
+-- Laws on plain lists, for the proofs of the functions.
 pub mod AnyLaws
-pub mod TestLaws

@@ -15,11 +15,6 @@ targets_of_code code = cond (eqb code 17) 1 0
 abbrev pub rule_weight : (ℕ → ℕ) → List ℕ → Rule → ℕ
 rule_weight weight codes r = total weight (take r.count (drop r.first codes))
 
--- what one code weighs: its targets, or its ranges
-abbrev pub weight_by : Bool → ℕ → ℕ
-weight_by true = targets_of_code
-weight_by false = ranges_of_code
-
 -- whether so many held and what all rules add exceed a limit
 abbrev pub adds_beyond : (ℕ → ℕ) → ℕ → ℕ → List Rule → List ℕ → Bool
 adds_beyond weight limit held rules codes = ltb limit (held + total (rule_weight weight codes) rules)

@@ -12,47 +12,29 @@ use reading::{Action, kinds, widths};
 fn number_limit(kind: u64) -> u64
     ensures { result ≡ number_limit kind }
 {
-    if kind == kinds::SKIP {
-        return 4294967295;
+    match kind {
+        kinds::SKIP => 4294967295,
+        kinds::SEVERITY..=kinds::ACCURACY => 255,
+        kinds::STATUS => 65535,
+        _ => u64::MAX,
     }
-    if kind < kinds::SEVERITY {
-        return 18446744073709551615;
-    }
-    if kind <= kinds::ACCURACY {
-        return 255;
-    }
-    if kind == kinds::STATUS {
-        return 65535;
-    }
-    18446744073709551615
 }
 
 // Whether a number is above the limit of its kind. No limit is below 255, so that most kinds aren't asked for theirs.
 fn is_above(kind: u64, number: u64) -> bool
     ensures { result ≡ ltb (number_limit kind) number }
 {
-    if number <= 255 {
-        return false;
-    }
-    number_limit(kind) < number
+    255 < number && number_limit(kind) < number
 }
 
 // An action beside a text of so many bytes.
 fn bad_action(action: Action, bytes: usize) -> bool
     ensures { result ≡ bad_action bytes action }
 {
-    if kinds::STATUS < action.kind {
-        return true;
-    }
-    if is_above(action.kind, action.number) {
-        return true;
-    }
-    let text = action.text;
-    if rule_checks::is_outside(bytes, text.start, text.len) {
-        return true;
-    }
-    let value = action.value;
-    rule_checks::is_outside(bytes, value.start, value.len)
+    kinds::STATUS < action.kind
+        || is_above(action.kind, action.number)
+        || rule_checks::is_outside(bytes, action.text.start, action.text.len)
+        || rule_checks::is_outside(bytes, action.value.start, action.value.len)
 }
 
 // Whether one of the actions has an unknown kind, a number above its limit, or a part outside a text of so many bytes.
@@ -60,12 +42,5 @@ pub fn any_bad_action(actions: &[u64], bytes: usize) -> bool
     ensures { result ≡ any (bad_action bytes) (action_list actions.now) }
 {
     let n = actions.len() / widths::ACTION;
-    let mut i = 0;
-    while i < n {
-        if bad_action(record::action_at(actions, i), bytes) {
-            return true;
-        }
-        i += 1;
-    }
-    false
+    (0..n).any(|i| bad_action(record::action_at(actions, i), bytes))
 }

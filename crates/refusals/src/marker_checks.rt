@@ -12,34 +12,19 @@ use text::high_bytes;
 fn bad_marker(marker: Marker, bytes: usize, rules: usize) -> bool
     ensures { result ≡ bad_marker bytes rules marker }
 {
-    let name = marker.name;
-    if rule_checks::is_outside(bytes, name.start, name.len) {
-        return true;
-    }
-    (rules as u64) < marker.position
+    rule_checks::is_outside(bytes, marker.name.start, marker.name.len)
+        || (rules as u64) < marker.position
 }
 
 // Whether one of the markers has its name outside a text of so many bytes, or its position above so many rules.
 pub fn any_bad_marker(markers: &[u64], bytes: usize, rules: usize) -> bool
     ensures { result ≡ any (bad_marker bytes rules) (marker_list markers.now) }
 {
-    let n = markers.len() / widths::MARKER;
-    let mut i = 0;
-    while i < n {
-        let name = Part {
-            start: markers[widths::MARKER * i],
-            len: markers[widths::MARKER * i + 1],
-        };
-        let m = Marker {
-            name,
-            position: markers[widths::MARKER * i + 2],
-        };
-        if bad_marker(m, bytes, rules) {
-            return true;
-        }
-        i += 1;
-    }
-    false
+    let (records, _) = markers.as_chunks::<{ widths::MARKER }>();
+    records.iter().any(|&[start, len, position]| {
+        let name = Part { start, len };
+        bad_marker(Marker { name, position }, bytes, rules)
+    })
 }
 
 // Whether one of the outcomes is unknown.

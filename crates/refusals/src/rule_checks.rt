@@ -12,36 +12,20 @@ pub fn is_outside(entries: usize, start: u64, len: u64) -> bool
     ensures { result ≡ outside entries start len }
 {
     let n = entries as u64;
-    if n < start {
-        return true;
-    }
-    n - start < len
+    n < start || n - start < len
 }
 
 // A rule among so many actions.
 fn bad_rule(rule: Rule, actions: usize) -> bool
     ensures { result ≡ bad_rule actions rule }
 {
-    if 1 < rule.present {
-        return true;
-    }
-    if 1 < rule.link {
-        return true;
-    }
-    is_outside(actions, rule.first, rule.count)
+    1 < rule.present || 1 < rule.link || is_outside(actions, rule.first, rule.count)
 }
 
-// Whether one of the rules has an unknown flag, or points outside so many actions.
+// One such search for each kind of record, with a test of its own. Whether one of the rules has an unknown flag, or points outside so many actions.
 pub fn any_bad_rule(rules: &[u64], actions: usize) -> bool
     ensures { result ≡ any (bad_rule actions) (rule_list rules.now) }
 {
     let n = rules.len() / widths::RULE;
-    let mut i = 0;
-    while i < n {
-        if bad_rule(rules::rule_at(rules, i), actions) {
-            return true;
-        }
-        i += 1;
-    }
-    false
+    (0..n).any(|i| bad_rule(rules::rule_at(rules, i), actions))
 }

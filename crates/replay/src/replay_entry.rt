@@ -1,148 +1,117 @@
-// The controls and the intervention that a recorded case starts with, and settings beside their recorded numbers.
-use crate::replay_line;
+// The transaction that a recorded case starts with, and settings beside their recorded numbers.
+use crate::replay_case::Entry;
 use control::state::{Controls, Settings};
-use reading::{
-    AccessSetting, BodyAccess, BodyProcessor, Intervention, ModeSetting, OptionIntervention,
-    OptionPlace, OptionU64, ProcessorSetting, RuleEngineMode, RuleMetadata,
-};
+use reading::{BodyAccess, BodyProcessor, Intervention, Place, RuleEngineMode, RuleMetadata};
+use transaction::types::Transaction;
 
-fn mode_setting(n: u64) -> ModeSetting {
+fn mode_setting(n: u64) -> Option<RuleEngineMode> {
     match n {
-        0 => ModeSetting::Unset,
-        1 => ModeSetting::Set(RuleEngineMode::On),
-        2 => ModeSetting::Set(RuleEngineMode::DetectionOnly),
-        _ => ModeSetting::Set(RuleEngineMode::Off),
+        0 => None,
+        1 => Some(RuleEngineMode::On),
+        2 => Some(RuleEngineMode::DetectionOnly),
+        _ => Some(RuleEngineMode::Off),
     }
 }
 
-fn access_setting(n: u64) -> AccessSetting {
+fn access_setting(n: u64) -> Option<BodyAccess> {
     match n {
-        0 => AccessSetting::Unset,
-        1 => AccessSetting::Set(BodyAccess::On),
-        _ => AccessSetting::Set(BodyAccess::Off),
+        0 => None,
+        1 => Some(BodyAccess::On),
+        _ => Some(BodyAccess::Off),
     }
 }
 
-fn processor_setting(n: u64) -> ProcessorSetting {
+fn processor_setting(n: u64) -> Option<BodyProcessor> {
     match n {
-        0 => ProcessorSetting::Unset,
-        1 => ProcessorSetting::Set(BodyProcessor::Urlencoded),
-        2 => ProcessorSetting::Set(BodyProcessor::Multipart),
-        3 => ProcessorSetting::Set(BodyProcessor::Json),
-        _ => ProcessorSetting::Set(BodyProcessor::Xml),
+        0 => None,
+        1 => Some(BodyProcessor::Urlencoded),
+        2 => Some(BodyProcessor::Multipart),
+        3 => Some(BodyProcessor::Json),
+        _ => Some(BodyProcessor::Xml),
     }
 }
 
-fn mode_number(mode: RuleEngineMode) -> u64 {
-    match mode {
-        RuleEngineMode::On => 1,
-        RuleEngineMode::DetectionOnly => 2,
-        RuleEngineMode::Off => 3,
-    }
-}
-
-fn access_number(access: BodyAccess) -> u64 {
-    match access {
-        BodyAccess::On => 1,
-        BodyAccess::Off => 2,
-    }
-}
-
-fn processor_number(processor: BodyProcessor) -> u64 {
-    match processor {
-        BodyProcessor::Urlencoded => 1,
-        BodyProcessor::Multipart => 2,
-        BodyProcessor::Json => 3,
-        BodyProcessor::Xml => 4,
-    }
-}
-
-pub fn is_mode(n: u64, setting: ModeSetting) -> bool {
+pub fn mode_number(setting: Option<RuleEngineMode>) -> u64 {
     match setting {
-        ModeSetting::Unset => n == 0,
-        ModeSetting::Set(mode) => n == mode_number(mode),
+        None => 0,
+        Some(RuleEngineMode::On) => 1,
+        Some(RuleEngineMode::DetectionOnly) => 2,
+        Some(RuleEngineMode::Off) => 3,
     }
 }
 
-pub fn is_access(n: u64, setting: AccessSetting) -> bool {
+pub fn access_number(setting: Option<BodyAccess>) -> u64 {
     match setting {
-        AccessSetting::Unset => n == 0,
-        AccessSetting::Set(access) => n == access_number(access),
+        None => 0,
+        Some(BodyAccess::On) => 1,
+        Some(BodyAccess::Off) => 2,
     }
 }
 
-pub fn is_processor(n: u64, setting: ProcessorSetting) -> bool {
+pub fn processor_number(setting: Option<BodyProcessor>) -> u64 {
     match setting {
-        ProcessorSetting::Unset => n == 0,
-        ProcessorSetting::Set(processor) => n == processor_number(processor),
+        None => 0,
+        Some(BodyProcessor::Urlencoded) => 1,
+        Some(BodyProcessor::Multipart) => 2,
+        Some(BodyProcessor::Json) => 3,
+        Some(BodyProcessor::Xml) => 4,
     }
 }
 
-fn entry_settings(list: &[u64]) -> Settings {
-    Settings {
-        mode: mode_setting(replay_line::number_at(list, 0)),
-        access: access_setting(replay_line::number_at(list, 1)),
-        processor: processor_setting(replay_line::number_at(list, 2)),
+// The controls at entry. The ranges go into their arrays as they are recorded: those of an accepted call have the merged form.
+fn entry_controls(entry: &Entry<'_>) -> Controls {
+    let mut controls = Controls::new();
+    let (ranges, _) = entry.ranges.as_chunks::<2>();
+    controls.settings = Settings {
+        mode: mode_setting(entry.mode),
+        access: access_setting(entry.access),
+        processor: processor_setting(entry.processor),
+    };
+    let places = controls.starts.iter_mut().zip(&mut controls.ends);
+    for ((start, end), &[first, last]) in places.zip(ranges) {
+        *start = first;
+        *end = last;
     }
-}
-
-// The ranges in the controls' arrays, as they are recorded: those of an accepted call have the merged form.
-fn with_ranges(controls: Controls, ranges: &[u64]) -> Controls {
-    let n = ranges.len() / 2;
-    let mut c = controls;
-    let mut k = 0;
-    while k < n {
-        if 256 <= k {
-            return c;
-        }
-        c.starts[k] = replay_line::number_at(ranges, 2 * k);
-        c.ends[k] = replay_line::number_at(ranges, 2 * k + 1);
-        k += 1;
-        c.ranges = k;
-    }
-    c
-}
-
-pub fn entry_controls(list: &[u64]) -> Controls {
-    let mut c = Controls::new();
-    let settings = entry_settings(list);
-    c.settings = settings;
-    with_ranges(c, replay_line::items(list, 5, 2))
+    controls.ranges = ranges.len();
+    controls
 }
 
 fn no_metadata() -> RuleMetadata {
     RuleMetadata {
-        id: OptionU64::None,
-        msg: OptionPlace::None,
-        logdata: OptionPlace::None,
-        rev: OptionPlace::None,
-        ver: OptionPlace::None,
-        severity: OptionU64::None,
-        maturity: OptionU64::None,
-        accuracy: OptionU64::None,
+        id: None,
+        msg: None,
+        logdata: None,
+        rev: None,
+        ver: None,
+        severity: None,
+        maturity: None,
+        accuracy: None,
     }
 }
 
 // The intervention at entry, where there is one: nothing is in it, since nothing of it is compared.
-pub fn entry_stop(stopped: u64) -> OptionIntervention {
-    if stopped == 0 {
-        return OptionIntervention::None;
+fn entry_stop(stopped: bool) -> Option<Intervention> {
+    if !stopped {
+        return None;
     }
-    OptionIntervention::Some(Intervention {
+    Some(Intervention {
         status: 0,
-        url: OptionPlace::None,
-        log: OptionPlace::None,
-        closing: OptionU64::None,
-        starter: OptionU64::None,
+        url: None,
+        log: None,
+        closing: None,
+        starter: None,
         phase: 0,
         drop: false,
         metadata: no_metadata(),
     })
 }
 
-pub fn is_stopped(stop: OptionIntervention) -> bool {
-    match stop {
-        OptionIntervention::None => false,
-        OptionIntervention::Some(_) => true,
+pub fn entry_transaction(entry: &Entry<'_>) -> Transaction {
+    Transaction {
+        controls: entry_controls(entry),
+        allowed: entry.allowed,
+        intervention: entry_stop(entry.stopped),
+        ids: 0,
+        entries: 0,
     }
 }

@@ -24,8 +24,7 @@ fn first_of_rule(index: u64, rule: Rule, codes: &[u16]) -> UnsupportedAt
 {
     let first = rule.first as usize;
     let end = changes::codes_end(codes.len(), first, rule.count as usize);
-    let mut i = first;
-    while i < end {
+    for i in first..end {
         let code = codes[i];
         if codes::is_reason(code) {
             return UnsupportedAt {
@@ -33,7 +32,6 @@ fn first_of_rule(index: u64, rule: Rule, codes: &[u16]) -> UnsupportedAt
                 reason: code as u64,
             };
         }
-        i += 1;
     }
     none()
 }
@@ -43,22 +41,17 @@ fn held_with(held: UnsupportedAt, index: u64, rule: Rule, codes: &[u16]) -> Unsu
     ensures { result ≡ cond (eqb held.reason 0) (first_or (coded codes.now index rule) none_unsupported) held }
 {
     if held.reason == 0 {
-        return first_of_rule(index, rule, codes);
+        first_of_rule(index, rule, codes)
+    } else {
+        held
     }
-    held
 }
 
 // Whether an entry that is not matched breaks the open chain: a missed one, and a removed link.
 fn breaks(verdict: u64, link: u64) -> bool
     ensures { result ≡ (eqb verdict 0 || (eqb verdict 2 && eqb link 1)) }
 {
-    if verdict == 0 {
-        return true;
-    }
-    if verdict == 2 {
-        return link == 1;
-    }
-    false
+    verdict == 0 || verdict == 2 && link == 1
 }
 
 // The first unsupported directive of a journal's closed units, or none. What is held is that of the matched links since the last
@@ -66,14 +59,10 @@ fn breaks(verdict: u64, link: u64) -> bool
 pub fn first_unsupported(entries: &[u64], rules: &[u64], codes: &[u16]) -> UnsupportedAt
     ensures { result ≡ unsupported_by_codes codes.now (rule_list rules.now) (journal_list entries.now) }
 {
-    let n = entries.len() / widths::JOURNAL_ENTRY;
+    let (journal, _) = entries.as_chunks::<{ widths::JOURNAL_ENTRY }>();
     let mut held = none();
-    let mut k = 0;
-    while k < n {
-        let index = entries[widths::JOURNAL_ENTRY * k];
-        let verdict = entries[widths::JOURNAL_ENTRY * k + 1];
+    for &[index, verdict] in journal {
         let rule = rules::rule_at(rules, index as usize);
-        k += 1;
         if verdict != 1 {
             if breaks(verdict, rule.link) {
                 held = none();
@@ -81,10 +70,7 @@ pub fn first_unsupported(entries: &[u64], rules: &[u64], codes: &[u16]) -> Unsup
             continue;
         }
         held = held_with(held, index, rule, codes);
-        if rule.link == 1 {
-            continue;
-        }
-        if held.reason != 0 {
+        if rule.link != 1 && held.reason != 0 {
             return held;
         }
     }

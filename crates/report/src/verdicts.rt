@@ -26,25 +26,19 @@ pub fn no_report() -> Report
 fn one_if(verdict: u64, number: u64) -> u64
     ensures { result ≡ cond (eqb verdict number) 1 0 }
 {
-    if verdict == number {
-        return 1;
-    }
-    0
+    (verdict == number) as u64
 }
 
 // Of the entries of a journal, with an unsupported directive or none.
 fn count_verdicts(entries: &[u64], unsupported: UnsupportedAt) -> Report
     ensures { result ≡ report_with (journal_list entries.now) unsupported }
 {
-    let n = entries.len() / widths::JOURNAL_ENTRY;
+    let (journal, _) = entries.as_chunks::<{ widths::JOURNAL_ENTRY }>();
     let mut others = 0u64;
     let mut matched = 0u64;
     let mut removed = 0u64;
     let mut errors = 0u64;
-    let mut k = 0;
-    while k < n {
-        let verdict = entries[widths::JOURNAL_ENTRY * k + 1];
-        k += 1;
+    for &[_, verdict] in journal {
         if verdict == 0 { // most rules of a phase are missed: no count is touched for them
             continue;
         }
@@ -54,7 +48,7 @@ fn count_verdicts(entries: &[u64], unsupported: UnsupportedAt) -> Report
         errors += one_if(verdict, 3);
     }
     Report {
-        missed: n as u64 - others,
+        missed: journal.len() as u64 - others,
         matched,
         removed,
         errors,
@@ -67,11 +61,10 @@ pub fn tell(entries: &[u64], rules: &[u64], codes: &[u16], some_unsupported: boo
     ensures { result ≡ report_with (journal_list entries.now)
         (cond some_unsupported (unsupported_by_codes codes.now (rule_list rules.now) (journal_list entries.now)) none_unsupported) }
 {
-    if some_unsupported {
-        return count_verdicts(
-            entries,
-            unsupported::first_unsupported(entries, rules, codes),
-        );
-    }
-    count_verdicts(entries, unsupported::none())
+    let unsupported = if some_unsupported {
+        unsupported::first_unsupported(entries, rules, codes)
+    } else {
+        unsupported::none()
+    };
+    count_verdicts(entries, unsupported)
 }

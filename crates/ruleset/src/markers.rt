@@ -4,18 +4,19 @@ ghost use Rattle.reading.specs.Text.{part_of};
 ghost use Rattle.reading.specs.Records.{marker_list};
 ghost use Rattle.reading.specs.Markers.{marker_position};
 
-use reading::{OptionU64, Part, widths};
+use reading::{Part, widths};
 use text::span;
 
-// The position of the latest marker of a name, byte for byte, or none. The name is a text of its own.
-pub fn marker_named(markers: &[u64], text: &[u8], name: &[u8]) -> OptionU64
+// The position of the latest marker of a name, byte for byte, or none. The name is a text of its own. 01 names this form: a loop that
+// yields the position by break, and in it the names compared by another, which a label leaves.
+pub fn marker_named(markers: &[u64], text: &[u8], name: &[u8]) -> Option<u64>
     ensures { result ≡ marker_position text.now (marker_list markers.now) name.now }
 {
     let n = name.len();
     let mut k = markers.len() / widths::MARKER;
     let found = 'search: loop {
         if k == 0 {
-            break 'search OptionU64::None;
+            break 'search None;
         }
         k -= 1;
         let p = Part {
@@ -27,7 +28,7 @@ pub fn marker_named(markers: &[u64], text: &[u8], name: &[u8]) -> OptionU64
             let mut j = 0;
             'name: loop {
                 if j == n {
-                    break 'search OptionU64::Some(markers[widths::MARKER * k + 2]);
+                    break 'search Some(markers[widths::MARKER * k + 2]);
                 }
                 if other[j] != name[j] {
                     break 'name;
@@ -40,9 +41,8 @@ pub fn marker_named(markers: &[u64], text: &[u8], name: &[u8]) -> OptionU64
 }
 
 // The same of a name that is a part of the markers' text.
-pub fn marker(markers: &[u64], text: &[u8], name: Part) -> OptionU64
+pub fn marker(markers: &[u64], text: &[u8], name: Part) -> Option<u64>
     ensures { result ≡ marker_position text.now (marker_list markers.now) (part_of text.now name) }
 {
-    let wanted = span::part_of(text, name);
-    marker_named(markers, text, wanted)
+    marker_named(markers, text, span::part_of(text, name))
 }

@@ -4,7 +4,7 @@ ghost use Rattle.reading.specs.Records.{rule_list};
 ghost use Rattle.reading.specs.Call.{no_rule, record_id};
 ghost use Rattle.reading.specs.Walk.{chain_rest};
 
-use reading::{OptionU64, Rule, widths};
+use reading::{Rule, widths};
 
 // The rule at an index, all zeros where there is none.
 pub fn rule_at(rules: &[u64], index: usize) -> Rule
@@ -30,23 +30,21 @@ pub fn rule_at(rules: &[u64], index: usize) -> Rule
 }
 
 // A rule's id, or none.
-pub fn rule_id(rule: Rule) -> OptionU64
+pub fn rule_id(rule: Rule) -> Option<u64>
     ensures { result ≡ record_id rule }
 {
     if rule.present == 1 {
-        return OptionU64::Some(rule.id);
+        Some(rule.id)
+    } else {
+        None
     }
-    OptionU64::None
 }
 
 // The outcome of the rule at an index, 0 where there is none.
 pub fn outcome_at(outcomes: &[u8], index: usize) -> u8
     ensures { result ≡ get_or outcomes.now index 0 }
 {
-    if outcomes.len() <= index {
-        return 0; // no outcome
-    }
-    outcomes[index]
+    outcomes.get(index).copied().unwrap_or(0)
 }
 
 // The index after the chain that the rule at an index belongs to: after the first rule from there on
@@ -55,13 +53,10 @@ pub fn after_chain(rules: &[u64], index: usize) -> usize
     ensures { result ≡ index + chain_rest (drop index (rule_list rules.now)) }
 {
     let n = rules.len() / widths::RULE;
-    let mut i = index;
-    while i < n {
-        let link = rules[widths::RULE * i + 2];
-        i += 1;
-        if link != 1 {
-            return i;
+    for i in index..n {
+        if rules[widths::RULE * i + 2] != 1 {
+            return i + 1;
         }
     }
-    i
+    index.max(n)
 }

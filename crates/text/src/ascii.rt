@@ -18,30 +18,12 @@ pub fn fold_byte(b: u8) -> u8
 pub fn folds_to(s: &[u8], spelling: &[u8]) -> bool
     ensures { result ≡ same (fold s.now) spelling.now }
 {
-    if s.len() != spelling.len() {
-        return false;
-    }
-    let mut i = 0;
-    while i < s.len() {
-        if fold_byte(s[i]) == spelling[i] {
-            i += 1;
-        } else {
-            return false;
-        }
-    }
-    true
+    s.len() == spelling.len() && s.iter().zip(spelling).all(|(x, y)| fold_byte(*x) == *y)
 }
 
 // Where a byte stands first, or the length.
 pub fn find(s: &[u8], b: u8) -> usize
     ensures { result ≡ index_of b s.now }
 {
-    let mut i = 0;
-    while i < s.len() {
-        if s[i] == b {
-            return i;
-        }
-        i += 1;
-    }
-    i
+    s.iter().position(|x| *x == b).unwrap_or(s.len())
 }

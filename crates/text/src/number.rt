@@ -1,46 +1,37 @@
 // A number in a text: an optional '+' and digits.
-ghost use Rattle.std.specs.Prelude.{◌≡◌};
+ghost use Rattle.std.specs.Prelude.{◌≡◌, ◌+◌, ◌*◌, ◌^◌, ◌<◌, SomeIff};
 ghost use Rattle.reading.specs.Text.{digits, number_of};
 
-use reading::Number;
+// A number with one digit more, if it is at most 18446744073709551615.
+pub fn with_digit(v: u64, digit: u8) -> Option<u64>
+    ensures { SomeIff result (v * 10 + digit < 2 ^ 64) (v * 10 + digit) }
+{
+    v.checked_mul(10)?.checked_add(u64::from(digit))
+}
 
 // One or more digits, at most 18446744073709551615; there is no limit to their count.
-fn read_digits(s: &[u8]) -> Number
+fn read_digits(s: &[u8]) -> Option<u64>
     ensures { result ≡ digits s.now }
 {
-    if s.len() == 0 {
-        return Number::Bad;
+    if s.is_empty() {
+        return None;
     }
-    let mut v: u64 = 0;
-    let mut i = 0;
-    while i < s.len() {
-        let b = s[i];
-        if b < 48 {
-            return Number::Bad;
+    let mut v = 0;
+    for b in s {
+        if !b.is_ascii_digit() {
+            return None;
         }
-        if 57 < b {
-            return Number::Bad;
-        }
-        let d = (b - 48) as u64;
-        // v * 10 + d would pass the largest number; its last digit is 5, and (d + 10) / 16 is 1 where d is larger
-        if 1844674407370955161 - (d + 10) / 16 < v {
-            return Number::Bad;
-        }
-        v = v * 10 + d;
-        i += 1;
+        let Some(next) = with_digit(v, b - b'0') else {
+            return None;
+        };
+        v = next;
     }
-    Number::Value(v)
+    Some(v)
 }
 
 // A number: an optional '+', then digits.
-pub fn read_number(s: &[u8]) -> Number
+pub fn read_number(s: &[u8]) -> Option<u64>
     ensures { result ≡ number_of s.now }
 {
-    if s.len() == 0 {
-        return Number::Bad;
-    }
-    if s[0] == b'+' {
-        return read_digits(&s[1..]);
-    }
-    read_digits(s)
+    read_digits(s.strip_prefix(b"+").unwrap_or(s))
 }

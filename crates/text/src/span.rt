@@ -3,23 +3,15 @@ ghost use Rattle.std.specs.Prelude.{◌≡◌};
 ghost use Rattle.reading.specs.Text.{same, part_of, trim, fold, number_of};
 
 use crate::{ascii, number, trim};
-use reading::{Number, Part};
+use reading::Part;
 
 // A part of a text; what of it lies after the text's end is left out.
 pub fn part_of(text: &[u8], p: Part) -> &[u8]
     ensures { result.now ≡ part_of text.now p }
 {
-    let n = text.len();
-    if n as u64 <= p.start {
-        return &text[n..];
-    }
-    let start = p.start as usize;
+    let start = p.start.min(text.len() as u64) as usize;
     let rest = &text[start..];
-    let left = rest.len();
-    if left as u64 <= p.len {
-        return rest;
-    }
-    let len = p.len as usize;
+    let len = p.len.min(rest.len() as u64) as usize;
     &rest[..len]
 }
 
@@ -38,7 +30,7 @@ pub fn part_folds_to(text: &[u8], p: Part, spelling: &[u8]) -> bool
 }
 
 // The number that a part of a text is.
-pub fn part_number(text: &[u8], p: Part) -> Number
+pub fn part_number(text: &[u8], p: Part) -> Option<u64>
     ensures { result ≡ number_of (part_of text.now p) }
 {
     number::read_number(part_of(text, p))

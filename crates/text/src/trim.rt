@@ -6,43 +6,27 @@ ghost use Rattle.reading.specs.Text.{is_blank, trim_start, trim_end, trim};
 pub fn is_blank(b: u8) -> bool
     ensures { result ≡ is_blank b }
 {
-    if b < 9 {
-        return false;
-    }
-    if b <= 13 {
-        return true;
-    }
-    b == 32
+    matches!(b, 9..=13 | 32)
 }
 
 // A text without the blanks in front.
 fn trim_start(s: &[u8]) -> &[u8]
     ensures { result.now ≡ trim_start s.now }
 {
-    let mut i = 0;
-    while i < s.len() {
-        if is_blank(s[i]) {
-            i += 1;
-        } else {
-            return &s[i..];
-        }
-    }
-    &s[i..]
+    let start = s.iter().position(|b| !is_blank(*b)).unwrap_or(s.len());
+    &s[start..]
 }
 
 // A text without the blanks at its end.
 fn trim_end(s: &[u8]) -> &[u8]
     ensures { result.now ≡ trim_end s.now }
 {
-    let mut n = s.len();
-    while 0 < n {
-        if is_blank(s[n - 1]) {
-            n -= 1;
-        } else {
-            return &s[..n];
-        }
-    }
-    &s[..n]
+    let blanks = s
+        .iter()
+        .rev()
+        .position(|b| !is_blank(*b))
+        .unwrap_or(s.len());
+    &s[..s.len() - blanks]
 }
 
 // A text without the blanks at its ends.

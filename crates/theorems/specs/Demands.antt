@@ -1,11 +1,10 @@
 -- The demands as theorems about the outcome that 01 defines, for any reading: demand 3 whole; a refused call and a call
 -- with nothing to do change nothing; the answers.
-use Rattle.std.specs.Prelude.{ℕ, ◌+◌, ◌≤◌, ◌≡◌, refl, List, [], ◌∷◌, ◌++◌, ◌⊎◌, Bool, true, false, not, cond, ◌&&◌, ◌||◌, length, take, drop, eqb}
+use Rattle.std.specs.Prelude.{ℕ, ◌+◌, ◌≤◌, ◌≡◌, refl, List, [], ◌∷◌, ◌++◌, ◌⊎◌, Bool, true, false, not, cond, ◌&&◌, ◌||◌, length, take, drop, eqb, Option, Some, None}
 use Rattle.std.proofs.Common.{sym, ap, ◌∙◌, inl, inr, arith, take-append-drop, eq-eqb, ne_eqb, eqb-true}
 use Rattle.std.proofs.lemmas.Bool.{eqb-false}
 use Rattle.reading.specs.declared.JournalEntry.{JournalEntry}
 use Rattle.reading.specs.declared.Intervention.{Intervention}
-use Rattle.reading.specs.declared.OptionIntervention.{OptionIntervention}
 use Rattle.reading.specs.Lists.{keep}
 use Rattle.reading.specs.Call.{Given, Call, Transaction, Lists, rule_count, is_link, mode_under}
 use Rattle.reading.specs.Controls.{Controls, is_on}
@@ -37,13 +36,13 @@ unfolding outcome_of
 found-is q =
     rw (← length-journal (visits_of q)) (take-front (journal_of (visits_of q)) (drop (length (journal_of (visits_of q))) q.lists.journal))
 
-pub none-held : (i : OptionIntervention) → is_stopped i ≡ false → i ≡ OptionIntervention.None
-none-held OptionIntervention.None e = refl
-none-held (OptionIntervention.Some i) e = absurd (let y : ◌≡◌ {A = ℕ} 0 1 = cc in omega arith)
+pub none-held : (i : Option Intervention) → is_stopped i ≡ false → i ≡ None
+none-held None e = refl
+none-held (Some i) e = absurd (let y : ◌≡◌ {A = ℕ} 0 1 = cc in omega arith)
 
-pub or-none : (i : OptionIntervention) → if_none i OptionIntervention.None ≡ i
-or-none OptionIntervention.None = refl
-or-none (OptionIntervention.Some i) = refl
+pub or-none : (i : Option Intervention) → if_none i None ≡ i
+or-none None = refl
+or-none (Some i) = refl
 
 -- THE ANSWERS
 
@@ -134,7 +133,7 @@ demand3 q answered unallowed unstopped =
       allow = rw (found, vs, ← r.units) (ap (λ (b : Bool). b || allowed_by (walk_of q.given q.transaction)) unallowed ∙ r.allow);
       intervention =
           rw (found, vs, ← r.units, ← r.controls) (
-          ap (λ (i : OptionIntervention). if_none (intervention_by (walk_of q.given q.transaction)) i) (none-held q.transaction.intervention unstopped)
+          ap (λ (i : Option Intervention). if_none (intervention_by (walk_of q.given q.transaction)) i) (none-held q.transaction.intervention unstopped)
           ∙ or-none (intervention_by (walk_of q.given q.transaction)) ∙ r.intervention);
     }
 
@@ -154,14 +153,14 @@ one-or-none q held (e ∷ []) = by (eqb e.verdict 1 && not (is_link q e.index))
     by false = inl refl
 one-or-none q held (e ∷ f ∷ es) = one-or-none q (held_after q held e) (f ∷ es)
 
-same-intervention : (i j : Intervention) → OptionIntervention.Some i ≡ OptionIntervention.Some j → i ≡ j
+same-intervention : (i j : Intervention) → Some i ≡ Some j → i ≡ j
 same-intervention i j e = cc
 
-never : (i : Intervention) → OptionIntervention.None ≡ OptionIntervention.Some i → ⊥
+never : (i : Intervention) → None ≡ Some i → ⊥
 never i e = let z : ◌≡◌ {A = ℕ} 0 1 = cc in omega arith
 
 pub stop-has-cause : (q : Given) (t : Transaction) (journal : List JournalEntry) (i : Intervention)
-    → replayed_intervention q t journal ≡ OptionIntervention.Some i → StoppedBy q t journal i
+    → replayed_intervention q t journal ≡ Some i → StoppedBy q t journal i
 unfolding last_closed OneOrNone
 stop-has-cause q t journal i h = by (one-or-none q [] journal)
   where
@@ -169,7 +168,7 @@ stop-has-cause q t journal i h = by (one-or-none q [] journal)
     c = replayed_controls q t journal
 
     unit-by : (u : List ℕ) → last_closed_from q [] journal ≡ u ∷ [] → (s on : Bool) → is_stopping (unit_disruptive q u) ≡ s → is_on (mode_under q c) ≡ on
-        → cond (s && on) (OptionIntervention.Some (unit_intervention q u)) OptionIntervention.None ≡ OptionIntervention.Some i → StoppedBy q t journal i
+        → cond (s && on) (Some (unit_intervention q u)) None ≡ Some i → StoppedBy q t journal i
     unit-by u e true true p r g =
         record { unit = u; closed-last = e; stopping = p; mode-on = r; built = sym (same-intervention (unit_intervention q u) i g) }
     unit-by u e true false p r g = absurd (never i g)
@@ -182,12 +181,12 @@ stop-has-cause q t journal i h = by (one-or-none q [] journal)
         (sym (ap (λ (l : List (List ℕ)). stop_of q l c) p.1) ∙ h)
 
 pub cause-stops : (q : Given) (t : Transaction) (journal : List JournalEntry) (i : Intervention)
-    → StoppedBy q t journal i → replayed_intervention q t journal ≡ OptionIntervention.Some i
+    → StoppedBy q t journal i → replayed_intervention q t journal ≡ Some i
 cause-stops q t journal i s =
     ap (λ (l : List (List ℕ)). stop_of q l (replayed_controls q t journal)) s.closed-last
-    ∙ ap (λ (b : Bool). cond (b && is_on (mode_under q (replayed_controls q t journal))) (OptionIntervention.Some (unit_intervention q s.unit)) OptionIntervention.None) s.stopping
-    ∙ ap (λ (b : Bool). cond b (OptionIntervention.Some (unit_intervention q s.unit)) OptionIntervention.None) s.mode-on
-    ∙ ap OptionIntervention.Some (sym s.built)
+    ∙ ap (λ (b : Bool). cond (b && is_on (mode_under q (replayed_controls q t journal))) (Some (unit_intervention q s.unit)) None) s.stopping
+    ∙ ap (λ (b : Bool). cond b (Some (unit_intervention q s.unit)) None) s.mode-on
+    ∙ ap Some (sym s.built)
 
 -- CALLS THAT CHANGE NOTHING
 

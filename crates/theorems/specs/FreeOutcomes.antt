@@ -1,7 +1,7 @@
 -- 01's domain: "each rule that the Rust run evaluates has that run's outcome; the other rules' outcomes are free." The
 -- outcomes of rules that are passed or removed have no influence, for any reading.
 use Prim.Native.Nat.{ℕ, zero, suc, ◌+◌}
-use Rattle.std.specs.Prelude.{◌≡◌, ◌⊎◌, Bool, not, ◌&&◌, ◌||◌, eqb}
+use Rattle.std.specs.Prelude.{◌≡◌, ◌⊎◌, Bool, not, ◌&&◌, ◌||◌, eqb, Option, Some, None}
 use Rattle.std.proofs.Math.Path.{refl, ap, subst, fun_ext}
 use Rattle.std.proofs.Common.{sym, ◌∙◌, inl, inr}
 use mathlib.Core.List.{List, [], ◌∷◌, ◌++◌}
@@ -9,7 +9,6 @@ use Rattle.std.proofs.Math.Bool.{true, false, cond}
 use native.Mathlib.Omega.{arith}
 use Rattle.std.proofs.Math.ListN.{length}
 use Rattle.reading.specs.declared.Verdict.{Verdict}
-use Rattle.reading.specs.declared.OptionU64.{OptionU64}
 use Rattle.reading.specs.declared.DisruptiveOutcome.{DisruptiveOutcome}
 use Rattle.reading.specs.declared.FlowOutcome.{FlowOutcome}
 use Rattle.reading.specs.declared.Intervention.{Intervention}
@@ -86,9 +85,9 @@ module _ (outcomes : List ℕ) (q : Given) where
     metadata = (unit_intervention q u).metadata;
   }
 
-  jump-same : (after : ℕ) (found : OptionU64) → jump_from (with_outcomes outcomes q) after found ≡ jump_from q after found
-  jump-same after OptionU64.None = refl
-  jump-same after (OptionU64.Some position) = refl
+  jump-same : (after : ℕ) (found : Option ℕ) → jump_from (with_outcomes outcomes q) after found ≡ jump_from q after found
+  jump-same after None = refl
+  jump-same after (Some position) = refl
 
   flow-same : (after : ℕ) (f : FlowOutcome) → after_flow (with_outcomes outcomes q) after f ≡ after_flow q after f
   flow-same after FlowOutcome.Continue = refl

@@ -1,11 +1,10 @@
 -- Ranges in the merged form, for lists of any length: adding a range keeps the form, removes the ids of the list and of the range, and
 -- makes at most one range more. 02, A.6.
 use Prim.{tt, Unit}
-use Rattle.std.specs.Prelude.{ℕ, ◌+◌, ◌≤◌, ◌<◌, ◌≡◌, refl, ◌⊎◌, Bool, true, false, cond, ◌&&◌, ◌||◌, List, [], ◌∷◌, ◌++◌, length, leb}
+use Rattle.std.specs.Prelude.{ℕ, ◌+◌, ◌≤◌, ◌<◌, ◌≡◌, refl, ◌⊎◌, Bool, true, false, cond, ◌&&◌, ◌||◌, List, [], ◌∷◌, ◌++◌, length, leb, Option, Some, None}
 use Rattle.std.proofs.Common.{sym, ap, ◌∙◌, ⊎_elim, inl, inr, arith, length-append, ltb-true, ltb-false, leb-true, leb-false, le-leb}
 use Rattle.std.proofs.lemmas.Bool.{lt-leb}
 use Rattle.reading.specs.declared.RuleIdRange.{RuleIdRange}
-use Rattle.reading.specs.declared.OptionU64.{OptionU64}
 use Rattle.reading.specs.Lists.{any}
 use Rattle.reading.specs.Ranges.{merged_from, is_apart, joined, staying, going_on, add_range, add_ranges}
 use Rattle.reading.specs.Controls.{in_range, is_removed}
@@ -237,13 +236,13 @@ added-in-turn held (r ∷ rs) ss = added-in-turn (add_range held r) rs ss
 
 -- 02: "The same ids are removed as by the plain list of all ranges accepted, of any length and in any order": by the ranges held with
 -- others merged in as by the plain list of both. The ranges held need not have the form.
-pub removed-append : (xs ys : List RuleIdRange) (id : OptionU64) → is_removed (xs ++ ys) id ≡ (is_removed xs id || is_removed ys id)
+pub removed-append : (xs ys : List RuleIdRange) (id : Option ℕ) → is_removed (xs ++ ys) id ≡ (is_removed xs id || is_removed ys id)
 unfolding is_removed
-removed-append xs ys OptionU64.None = refl
-removed-append xs ys (OptionU64.Some id) = any_append (in_range id) xs ys
+removed-append xs ys None = refl
+removed-append xs ys (Some id) = any_append (in_range id) xs ys
 
-pub merged-removes : (held rs : List RuleIdRange) (id : OptionU64) → AllOrdered held → AllOrdered rs
+pub merged-removes : (held rs : List RuleIdRange) (id : Option ℕ) → AllOrdered held → AllOrdered rs
     → is_removed (add_ranges held rs) id ≡ is_removed (held ++ rs) id
 unfolding is_removed
-merged-removes held rs OptionU64.None o p = refl
-merged-removes held rs (OptionU64.Some id) o p = any-all-added id held rs o p ∙ sym (any_append (in_range id) held rs)
+merged-removes held rs None o p = refl
+merged-removes held rs (Some id) o p = any-all-added id held rs o p ∙ sym (any_append (in_range id) held rs)

@@ -1,19 +1,15 @@
 -- Where the two readings, and the manual and the Rust, agree, so that docs/DIFFERENCES.md lists all that is left; and what
 -- does not depend on the reading.
-use Rattle.std.specs.Prelude.{ℕ, zero, suc, ◌+◌, ◌≤◌, ◌<◌, ◌≡◌, refl, ◌⊎◌, List, [], ◌∷◌, ◌++◌, Bool, true, false, not, cond, ◌&&◌, ◌||◌, length, leb, ltb, eqb}
+use Rattle.std.specs.Prelude.{ℕ, zero, suc, ◌+◌, ◌≤◌, ◌<◌, ◌≡◌, refl, ◌⊎◌, List, [], ◌∷◌, ◌++◌, Bool, true, false, not, cond, ◌&&◌, ◌||◌, length, leb, ltb, eqb, Option, Some, None}
 use Rattle.std.proofs.Common.{sym, ap, ◌∙◌, inl, inr, arith, drop-cons, le-leb, ne_eqb, ltb-true, ltb-false, eqb-true}
-use Rattle.std.proofs.Math.Option.{Option, some, none}
 use Rattle.std.proofs.lemmas.Bool.{lt-leb, eqb-false}
 use Rattle.reading.specs.declared.RuleEngineMode.{RuleEngineMode}
-use Rattle.reading.specs.declared.OptionU64.{OptionU64}
 use Rattle.reading.specs.declared.Verdict.{Verdict}
 use Rattle.reading.specs.declared.FlowOutcome.{FlowOutcome}
 use Rattle.reading.specs.declared.DisruptiveOutcome.{DisruptiveOutcome}
 use Rattle.reading.specs.declared.IdPart.{IdPart}
-use Rattle.reading.specs.declared.Number.{Number}
 use Rattle.reading.specs.declared.Rule.{Rule}
 use Rattle.reading.specs.declared.Action.{Action}
-use Rattle.reading.specs.declared.OptionIntervention.{OptionIntervention}
 use Rattle.reading.specs.Text.{ascii, same, trim, fold, digits, id_parts, id_part, is_bad, range_in, any_bad, ranges_in}
 use Rattle.reading.specs.declared.UnsupportedReason.{UnsupportedReason}
 use Rattle.reading.specs.Directive.{Directive, rule_remove_by_id, unsupported, directive_named, directive_of, reason_named}
@@ -51,7 +47,7 @@ pub jumps-agree : (position after : ℕ) → (position ≡ after → ⊥) → ju
 jumps-agree position after h = rw (ne_eqb position after h)
 
 -- deny has one status in both where the starter has no status action
-pub status-agrees : rust_status OptionU64.None ≡ manual_status OptionU64.None
+pub status-agrees : rust_status None ≡ manual_status None
 status-agrees = refl
 
 -- skip passes as many in both where no link lies ahead
@@ -87,10 +83,10 @@ controls-agree q m c = refl
 
 -- redirect has the same status but for a status action of 301, 303 or 307
 pub redirects-agree : (n : ℕ) → (n ≡ 301 → ⊥) → (n ≡ 303 → ⊥) → (n ≡ 307 → ⊥)
-    → manual_redirect_status (OptionU64.Some n) ≡ rust_redirect_status (OptionU64.Some n)
+    → manual_redirect_status (Some n) ≡ rust_redirect_status (Some n)
 redirects-agree n a b c = rw (ne_eqb n 301 a, ne_eqb n 303 b, ne_eqb n 307 c)
 
-pub plain-redirects-agree : manual_redirect_status OptionU64.None ≡ rust_redirect_status OptionU64.None
+pub plain-redirects-agree : manual_redirect_status None ≡ rust_redirect_status None
 plain-redirects-agree = refl
 
 -- flow is the same where a rule has neither chain nor multiMatch
@@ -98,8 +94,8 @@ flow-tests : (found : Option Placed) (ps : List Placed) → NoChain ps
     → last_from found (λ kind. eqb kind 8 || eqb kind 9) ps ≡ last_from found is_flow ps
 flow-tests found [] h = refl
 flow-tests found (p ∷ ps) h =
-    ap (λ (b : Bool). last_from (cond b (some p) found) (λ kind. eqb kind 8 || eqb kind 9) ps) (by (kind_of p) h.0 h.1)
-    ∙ flow-tests (cond (is_flow (kind_of p)) (some p) found) ps h.2
+    ap (λ (b : Bool). last_from (cond b (Some p) found) (λ kind. eqb kind 8 || eqb kind 9) ps) (by (kind_of p) h.0 h.1)
+    ∙ flow-tests (cond (is_flow (kind_of p)) (Some p) found) ps h.2
   where
     by : (k : ℕ) → (k ≡ 7 → ⊥) → (k ≡ 10 → ⊥) → (eqb k 8 || eqb k 9) ≡ is_flow k
     by k a b = go (eqb k 8) (eqb k 9) refl refl
@@ -122,7 +118,7 @@ flow-tests found (p ∷ ps) h =
 
 pub flows-agree : (ps : List Placed) → NoChain ps → manual_flow ps ≡ rust_flow ps
 unfolding last_of last_flow
-flows-agree ps h = ap flow_by (flow-tests none ps h)
+flows-agree ps h = ap flow_by (flow-tests None ps h)
 
 -- phases 1 to 4 are entered alike, and stopped alike
 pub enters-agree : (q : Given) (t : Transaction) → (q.settings.phase ≡ 5 → ⊥) → manual_enters q t ≡ rust_enters t
@@ -144,12 +140,12 @@ removals-agree value h =
     by (IdPart.Range r) = refl
 
 -- a name that is no number leads to the same place
-pub targets-agree : (q : Given) (name : List ℕ) → digits name ≡ Number.Bad → manual_target q name ≡ rust_target q name
-targets-agree q name h = ap (λ (n : Number). later (rust_target q name) (manual_rule_named q.rules n)) h ∙ by (rust_target q name)
+pub targets-agree : (q : Given) (name : List ℕ) → digits name ≡ None → manual_target q name ≡ rust_target q name
+targets-agree q name h = ap (λ (n : Option ℕ). later (rust_target q name) (manual_rule_named q.rules n)) h ∙ by (rust_target q name)
   where
-    by : (found : OptionU64) → later found OptionU64.None ≡ found
-    by OptionU64.None = refl
-    by (OptionU64.Some position) = refl
+    by : (found : Option ℕ) → later found None ≡ found
+    by None = refl
+    by (Some position) = refl
 
 -- what the Rust calls a directive the manual does too
 pub names-agree : (name : List ℕ) → rust_names name ≡ true → manual_names name ≡ true
@@ -181,11 +177,11 @@ walk-acts q unit c d = by (is_allow d) (is_stopping d && is_on (mode_under q c))
 
 -- whether a unit stops the request is no matter of the phase
 pub walk-stops : (q : Given) (unit : List ℕ) (c : Controls) (d : DisruptiveOutcome)
-    → is_stopped (intervention_or (ending_by q unit c d) OptionIntervention.None) ≡ (rust_stops q && is_stopping d && is_on (mode_under q c))
+    → is_stopped (intervention_or (ending_by q unit c d) None) ≡ (rust_stops q && is_stopping d && is_on (mode_under q c))
 walk-stops q unit c d = by d (is_on (mode_under q c))
   where
     by : (d : DisruptiveOutcome) (on : Bool)
-        → is_stopped (intervention_or (cond (is_allow d) allows (cond (is_stopping d && on) (stops (unit_intervention q unit)) goes_on)) OptionIntervention.None) ≡ (is_stopping d && on)
+        → is_stopped (intervention_or (cond (is_allow d) allows (cond (is_stopping d && on) (stops (unit_intervention q unit)) goes_on)) None) ≡ (is_stopping d && on)
     by DisruptiveOutcome.Nothing on = refl
     by DisruptiveOutcome.Deny true = refl
     by DisruptiveOutcome.Deny false = refl

@@ -1,10 +1,10 @@
 -- Demand 3 as a theorem, without the code and for any reading, any lengths and any call: what the walk gives is what its
 -- journal's closed units give.
-use Rattle.std.specs.Prelude.{ℕ, zero, suc, ◌≡◌, refl, List, [], ◌∷◌, ◌++◌, Bool, true, false, not, cond, ◌&&◌, ◌||◌}
+use Rattle.std.specs.Prelude.{ℕ, zero, suc, ◌≡◌, refl, List, [], ◌∷◌, ◌++◌, Bool, true, false, not, cond, ◌&&◌, ◌||◌, Option, Some, None}
 use Rattle.std.proofs.Common.{◌∙◌, arith}
+use Rattle.reading.specs.declared.Intervention.{Intervention}
 use Rattle.reading.specs.declared.Verdict.{Verdict}
 use Rattle.reading.specs.declared.DisruptiveOutcome.{DisruptiveOutcome}
-use Rattle.reading.specs.declared.OptionIntervention.{OptionIntervention}
 use Rattle.reading.specs.Lists.{keep, any}
 use Rattle.reading.specs.Controls.{Controls, is_on}
 use Rattle.reading.specs.Call.{Given, Transaction, is_link, mode_under, rule_count}
@@ -53,8 +53,8 @@ ending-allow q unit false true = refl
 ending-allow q unit false false = refl
 
 ending-stop : (q : Given) (unit : List ℕ) (d : DisruptiveOutcome) (on : Bool)
-    → intervention_or (cond (is_allow d) allows (cond (is_stopping d && on) (stops (unit_intervention q unit)) goes_on)) OptionIntervention.None
-    ≡ cond (is_stopping d && on) (OptionIntervention.Some (unit_intervention q unit)) OptionIntervention.None
+    → intervention_or (cond (is_allow d) allows (cond (is_stopping d && on) (stops (unit_intervention q unit)) goes_on)) None
+    ≡ cond (is_stopping d && on) (Some (unit_intervention q unit)) None
 ending-stop q unit DisruptiveOutcome.Nothing on = refl
 ending-stop q unit DisruptiveOutcome.Deny true = refl
 ending-stop q unit DisruptiveOutcome.Deny false = refl
@@ -81,7 +81,7 @@ module _ (q : Given) (st : State) where
 
   -- a visit gives the intervention of the unit that it closes
   stop_is : (v : Verdict) (l : Bool)
-      → intervention_or (visit_by q st v l).ending OptionIntervention.None ≡ stop_of q (visit_by q st v l).closed (visit_by q st v l).after.controls
+      → intervention_or (visit_by q st v l).ending None ≡ stop_of q (visit_by q st v l).closed (visit_by q st v l).after.controls
   stop_is Verdict.Missed l = refl
   stop_is Verdict.Matched true = refl
   stop_is Verdict.Matched false =
@@ -92,7 +92,7 @@ module _ (q : Given) (st : State) where
   stop_is Verdict.Error l = refl
 
 -- a visit that is not the last gives no intervention
-pub not_last : (e : Ending) (other : OptionIntervention) → is_last e ≡ false → intervention_or e other ≡ other
+pub not_last : (e : Ending) (other : Option Intervention) → is_last e ≡ false → intervention_or e other ≡ other
 not_last goes_on other h = refl
 not_last allows other h = refl
 not_last errs other h = refl
@@ -127,7 +127,7 @@ record Seen (q : Given) (ms : List ℕ) (c : Controls) (v : Visit) : Type 0 wher
   closed : v.closed ≡ closed_by q ms (entry_of v)
   controls : v.after.controls ≡ units_controls q v.closed c
   allow : gives_allow v.ending ≡ any (unit_allows q) v.closed
-  stop : intervention_or v.ending OptionIntervention.None ≡ stop_of q v.closed v.after.controls
+  stop : intervention_or v.ending None ≡ stop_of q v.closed v.after.controls
 
 one_more : (q : Given) (ms : List ℕ) (c : Controls) (v : Visit) (l : List Visit) → Seen q ms c v
     → intervention_by (v ∷ l) ≡ stop_of q (last_closed_from q ms (journal_of (v ∷ l))) (controls_after c (v ∷ l))

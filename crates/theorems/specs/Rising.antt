@@ -1,9 +1,8 @@
 -- The indexes of a journal rise strictly, and each is that of a rule, for any reading.
-use Rattle.std.specs.Prelude.{ℕ, zero, suc, ◌+◌, ◌≤◌, ◌<◌, ◌≡◌, refl, List, [], ◌∷◌, ◌++◌, Bool, true, false, not, cond, ◌&&◌, ◌||◌, length, drop, ltb, eqb}
+use Rattle.std.specs.Prelude.{ℕ, zero, suc, ◌+◌, ◌≤◌, ◌<◌, ◌≡◌, refl, List, [], ◌∷◌, ◌++◌, Bool, true, false, not, cond, ◌&&◌, ◌||◌, length, drop, ltb, eqb, Option, Some, None}
 use Rattle.std.proofs.Common.{ap, ◌∙◌, arith, ltb-true, eqb-true}
 use Rattle.reading.specs.declared.Verdict.{Verdict}
 use Rattle.reading.specs.declared.Rule.{Rule}
-use Rattle.reading.specs.declared.OptionU64.{OptionU64}
 use Rattle.reading.specs.declared.FlowOutcome.{FlowOutcome}
 use Rattle.reading.specs.declared.JournalEntry.{JournalEntry}
 use Rattle.reading.specs.Lists.{keep}
@@ -40,9 +39,9 @@ jumps-ahead r position after e = by (ltb after position) r.adjacent (eqb positio
     by false true false p s h = absurd (let y : ◌≡◌ {A = ℕ} 0 1 = cc in omega arith)
     by false false c p s h = absurd (let y : ◌≡◌ {A = ℕ} 0 1 = cc in omega arith)
 
-jump-ahead : (q : Given) (i : ℕ) (found : OptionU64) → i < rule_count q → i < jump_from q (suc i) found
-jump-ahead q i OptionU64.None h = h
-jump-ahead q i (OptionU64.Some position) h = by (jumps q.reading position (suc i)) refl
+jump-ahead : (q : Given) (i : ℕ) (found : Option ℕ) → i < rule_count q → i < jump_from q (suc i) found
+jump-ahead q i None h = h
+jump-ahead q i (Some position) h = by (jumps q.reading position (suc i)) refl
   where
     by : (b : Bool) → jumps q.reading position (suc i) ≡ b → i < cond b position (rule_count q)
     by true e = omega (arith, jumps-ahead q.reading position (suc i) e)

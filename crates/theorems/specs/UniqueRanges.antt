@@ -1,10 +1,9 @@
 -- The merged form is determined by the ids that it removes: two lists in the form that remove the same ids are equal. So the order of
 -- adding does not matter, nor what was merged before. 02, A.6.
 use Prim.{tt}
-use Rattle.std.specs.Prelude.{ℕ, ◌+◌, ◌≤◌, ◌<◌, ◌≡◌, refl, Bool, true, false, ◌||◌, List, [], ◌∷◌, ltb}
+use Rattle.std.specs.Prelude.{ℕ, ◌+◌, ◌≤◌, ◌<◌, ◌≡◌, refl, Bool, true, false, ◌||◌, List, [], ◌∷◌, ltb, Option, Some}
 use Rattle.std.proofs.Common.{sym, ap, ap₂, ◌∙◌, arith, ltb-true, ltb-false}
 use Rattle.reading.specs.declared.RuleIdRange.{RuleIdRange}
-use Rattle.reading.specs.declared.OptionU64.{OptionU64}
 use Rattle.reading.specs.Lists.{any}
 use Rattle.reading.specs.Ranges.{add_ranges}
 use Rattle.reading.specs.Controls.{in_range, is_removed}
@@ -82,13 +81,13 @@ form-unique n m (x ∷ xs) (y ∷ ys) f g s =
     ap₂ ◌∷◌ (sym e) (form-unique (x.end + 2) (x.end + 2) xs ys f.2 g' (after x xs ys f.2 g' s'))
 
 -- THE FORM IS DETERMINED BY THE IDS
-pub merged-unique : (xs ys : List RuleIdRange) → Merged xs → Merged ys → ((id : OptionU64) → is_removed xs id ≡ is_removed ys id) → xs ≡ ys
+pub merged-unique : (xs ys : List RuleIdRange) → Merged xs → Merged ys → ((id : Option ℕ) → is_removed xs id ≡ is_removed ys id) → xs ≡ ys
 unfolding is_removed
-merged-unique xs ys f g s = form-unique 0 0 xs ys f g (λ id. s (OptionU64.Some id))
+merged-unique xs ys f g s = form-unique 0 0 xs ys f g (λ id. s (Some id))
 
 -- THE ORDER OF ADDING DOES NOT MATTER: two lists of ranges that remove the same ids, in any order and with any repeated, leave the same
 pub order-free : (held rs ss : List RuleIdRange) → Merged held → AllOrdered rs → AllOrdered ss
-    → ((id : OptionU64) → is_removed rs id ≡ is_removed ss id) → add_ranges held rs ≡ add_ranges held ss
+    → ((id : Option ℕ) → is_removed rs id ≡ is_removed ss id) → add_ranges held rs ≡ add_ranges held ss
 order-free held rs ss f o p s =
     let h = form-ordered 0 held f in
     merged-unique (add_ranges held rs) (add_ranges held ss) (all-added-merged held rs f o) (all-added-merged held ss f p)
@@ -99,7 +98,7 @@ order-free held rs ss f o p s =
 
 -- ranges whose ids are all removed already change nothing
 pub covered_same : (held rs : List RuleIdRange) → Merged held → AllOrdered rs
-    → ((id : OptionU64) → is_removed rs id ≡ true → is_removed held id ≡ true) → add_ranges held rs ≡ held
+    → ((id : Option ℕ) → is_removed rs id ≡ true → is_removed held id ≡ true) → add_ranges held rs ≡ held
 covered_same held rs f o c =
     merged-unique (add_ranges held rs) held (all-added-merged held rs f o) f
     (λ id. merged-removes held rs id (form-ordered 0 held f) o ∙ (removed-append held rs id ∙ either (is_removed held id) (is_removed rs id) (c id)))

@@ -1,13 +1,11 @@
 -- The ranges that a phase leaves, for any reading: those held with the closed units' own merged in, in the merged form, and they remove
 -- the ids that the plain list of all of them removes. 02, A.6.
 use Prim.{tt, Unit}
-use Rattle.std.specs.Prelude.{ℕ, zero, suc, ◌≤◌, ◌<◌, ◌≡◌, refl, Bool, true, false, not, cond, ◌||◌, List, [], ◌∷◌, ◌++◌, length, leb, ltb, eqb}
+use Rattle.std.specs.Prelude.{ℕ, zero, suc, ◌≤◌, ◌<◌, ◌≡◌, refl, Bool, true, false, not, cond, ◌||◌, List, [], ◌∷◌, ◌++◌, length, leb, ltb, eqb, Option, Some, None}
 use Rattle.std.proofs.Common.{sym, ap, ◌∙◌, arith, leb-true, leb-false, eqb-true, le-ltb, ltb-false}
-use Rattle.reading.specs.declared.Number.{Number}
 use Rattle.reading.specs.declared.IdPart.{IdPart}
 use Rattle.reading.specs.declared.RuleIdRange.{RuleIdRange}
 use Rattle.reading.specs.declared.Place.{Place}
-use Rattle.reading.specs.declared.OptionU64.{OptionU64}
 use Rattle.reading.specs.declared.Verdict.{Verdict}
 use Rattle.reading.specs.Limits.{most_ranges, most_targets}
 use Rattle.reading.specs.Lists.{keep, gather}
@@ -30,24 +28,24 @@ use Rattle.theorems.specs.WithinLimits.{next_one, passed, accepted-within}
 
 -- WHAT IS READ HAS NO START ABOVE ITS END
 
-one-ordered : (n : Number) → AllOrdered (range_in (one_id n))
+one-ordered : (n : Option ℕ) → AllOrdered (range_in (one_id n))
 unfolding one_id
-one-ordered (Number.Value n) = (omega arith, tt)
-one-ordered Number.Bad = tt
+one-ordered (Some n) = (omega arith, tt)
+one-ordered None = tt
 
-to-ordered : (start : ℕ) (n : Number) → AllOrdered (range_in (ids_to start n))
+to-ordered : (start : ℕ) (n : Option ℕ) → AllOrdered (range_in (ids_to start n))
 unfolding ids_to
-to-ordered start (Number.Value end) = by (leb start end) refl
+to-ordered start (Some end) = by (leb start end) refl
   where
     by : (b : Bool) → leb start end ≡ b → AllOrdered (range_in (cond b (IdPart.Range (record { start = start; end = end })) IdPart.Bad))
     by true e = (leb-true start end e, tt)
     by false e = tt
-to-ordered start Number.Bad = tt
+to-ordered start None = tt
 
-from-ordered : (n m : Number) → AllOrdered (range_in (ids_from n m))
+from-ordered : (n m : Option ℕ) → AllOrdered (range_in (ids_from n m))
 unfolding ids_from
-from-ordered (Number.Value start) m = to-ordered start m
-from-ordered Number.Bad m = tt
+from-ordered (Some start) m = to-ordered start m
+from-ordered None m = tt
 
 -- a part between commas
 part-ordered : (p : List ℕ) → AllOrdered (range_in (id_part p))
@@ -253,7 +251,7 @@ taken c r e =
     record { controls = p.0; ordered = ltb-false r.end r.start o.0; free = leb-false 256 (length c.ranges) f.0 }
 
 -- the ids removed after it are those of the plain list with the range at its end
-pub single-removes : (c : Controls) (r : RuleIdRange) (id : OptionU64) → add_range_answer c r ≡ 0
+pub single-removes : (c : Controls) (r : RuleIdRange) (id : Option ℕ) → add_range_answer c r ≡ 0
     → is_removed (with_range c r).ranges id ≡ is_removed (c.ranges ++ (r ∷ [])) id
 unfolding add_ranges
 single-removes c r id e =
@@ -304,7 +302,7 @@ found-good q e =
     form-controls (outcome_of q).transaction.controls w.ranges w.targets (found-form q e)
 
 -- THE SAME IDS ARE REMOVED AS BY THE PLAIN LIST OF ALL RANGES ACCEPTED: those held and those of the closed units, as they are written
-pub plain-removes : (q : Call) → refusal_of q ≡ 0 → (id : OptionU64)
+pub plain-removes : (q : Call) → refusal_of q ≡ 0 → (id : Option ℕ)
     → is_removed (outcome_of q).transaction.controls.ranges id ≡ is_removed (q.transaction.controls.ranges ++ ranges_by q.given (visits_of q)) id
 plain-removes q e id =
     rw (found-ranges q)
@@ -321,7 +319,7 @@ PlainVerdicts g plain (v ∷ vs) =
 
 -- two lists that remove the same ids
 abbrev SameIds : List RuleIdRange → List RuleIdRange → Type 0
-SameIds xs ys = (id : OptionU64) → is_removed xs id ≡ is_removed ys id
+SameIds xs ys = (id : Option ℕ) → is_removed xs id ≡ is_removed ys id
 
 -- a visit's verdict
 verdict-is : (g : Given) (st : State) (v : Verdict) (l : Bool) → (visit_by g st v l).verdict ≡ v

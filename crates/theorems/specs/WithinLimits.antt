@@ -1,11 +1,10 @@
 -- An accepted call never passes 256 ranges, 64 targets or the free entries of a lent list, for any reading: the members of
 -- closed units are different rules, so that what they give is within what refusals 7, 8 and 9 counted.
-use Rattle.std.specs.Prelude.{ℕ, zero, suc, ◌+◌, ◌-◌, ◌≤◌, ◌<◌, ◌≡◌, refl, List, [], ◌∷◌, ◌++◌, Bool, true, false, not, cond, ◌||◌, length, get_or, take, drop, ltb, eqb}
+use Rattle.std.specs.Prelude.{ℕ, zero, suc, ◌+◌, ◌-◌, ◌≤◌, ◌<◌, ◌≡◌, refl, List, [], ◌∷◌, ◌++◌, Bool, true, false, not, cond, ◌||◌, length, get_or, take, drop, ltb, eqb, Option, Some, None}
 use Rattle.std.proofs.Common.{ap, ◌∙◌, arith, length-append, length-take, length-drop, ltb-false}
 use Rattle.reading.specs.declared.Verdict.{Verdict}
 use Rattle.reading.specs.declared.Rule.{Rule}
 use Rattle.reading.specs.declared.Place.{Place}
-use Rattle.reading.specs.declared.OptionU64.{OptionU64}
 use Rattle.reading.specs.Lists.{keep, total, gather, over}
 use Rattle.reading.specs.Numbers.{list_of}
 use Rattle.reading.specs.Directive.{Directive, rule_engine, rule_remove_by_id, rule_remove_target_by_id, request_body_access, request_body_processor, unsupported, range_count, target_count}
@@ -209,9 +208,9 @@ module _ (q : Given) (count : Controls → ℕ) (given : Directive → ℕ) (cou
       )
 
 -- at most one id a unit, one unit a visit, and one visit a rule
-one-id : (i : OptionU64) → length (list_of i) ≤ 1
-one-id OptionU64.None = omega arith
-one-id (OptionU64.Some n) = omega arith
+one-id : (i : Option ℕ) → length (list_of i) ≤ 1
+one-id None = omega arith
+one-id (Some n) = omega arith
 
 ids-few : (q : Given) (us : List (List ℕ)) → length (gather (unit_ids q) us) ≤ length us
 ids-few q [] = omega arith

@@ -1,4 +1,5 @@
 -- How a visit leaves the phase, in the code and in the definition. Assumes nothing.
+use Rattle.std.specs.Prelude.{Option, None, is_some}
 use Prim.Native.Nat.{ℕ, ◌<◌}
 use mathlib.Core.Path.{◌≡◌, refl, ap, ◌∙◌}
 use mathlib.Core.Bool.{Bool, true, false, not, cond, ◌&&◌}
@@ -7,7 +8,6 @@ use Rattle.reading.specs.declared.Verdict.{Verdict}
 use Rattle.reading.specs.declared.DisruptiveOutcome.{DisruptiveOutcome}
 use Rattle.reading.specs.declared.Intervention.{Intervention}
 use Rattle.reading.specs.declared.RuleEngineMode.{RuleEngineMode}
-use Rattle.reading.specs.declared.OptionIntervention.{OptionIntervention}
 use Rattle.reading.specs.Reading.{rust}
 use Rattle.reading.specs.Controls.{Controls, is_on}
 use Rattle.reading.specs.Call.{Given, mode_under, is_link, rule_count}
@@ -59,7 +59,7 @@ module _ (a b : Bool) (i : Intervention) where
   kind-by false true = refl
   kind-by false false = refl
 
-  stop-by : (x y : Bool) → intervention_or (by x y) OptionIntervention.None ≡ intervention_at_end (kind_of (by x y)) i
+  stop-by : (x y : Bool) → intervention_or (by x y) None ≡ intervention_at_end (kind_of (by x y)) i
   stop-by true y = refl
   stop-by false true = refl
   stop-by false false = refl
@@ -69,12 +69,12 @@ abbrev pub end_of : Verdict → DisruptiveOutcome → RuleEngineMode → Ending
 end_of found d mode = cond (visit.is_error found) Ending.Errs (end_by d mode)
 
 -- by what is found and whether the rule is a link
-module _ (q : Given) (reading : q.reading ≡ rust) (st : State) (chained : Bool) (first : ℕ) where
+module _ (q : Given) (reading : q.reading ≡ rust) (st : State) (chain : Option ℕ) (first : ℕ) where
   abbrev unit : List ℕ
   unit = st.members ++ (st.next ∷ [])
 
   ending-by : (v : Verdict) (l : Bool) (d : DisruptiveOutcome)
-      → d ≡ cond (by_code q reading st chained first v l).closes (unit_disruptive q unit) DisruptiveOutcome.Nothing
+      → d ≡ cond (is_some (by_code q reading st chain first v l).closes) (unit_disruptive q unit) DisruptiveOutcome.Nothing
       → kind_of (visit_by q st v l).ending ≡ end_of v d (mode_under q (visit_by q st v l).after.controls)
   ending-by Verdict.Missed l d e = rw e
   ending-by Verdict.Matched true d e = rw e
@@ -85,8 +85,8 @@ module _ (q : Given) (reading : q.reading ≡ rust) (st : State) (chained : Bool
   ending-by Verdict.Error l d e = refl
 
   stopping-by : (v : Verdict) (l : Bool) (i : Intervention)
-      → ((by_code q reading st chained first v l).closes ≡ true → i ≡ unit_intervention q unit)
-      → intervention_or (visit_by q st v l).ending OptionIntervention.None ≡ intervention_at_end (kind_of (visit_by q st v l).ending) i
+      → (is_some (by_code q reading st chain first v l).closes ≡ true → i ≡ unit_intervention q unit)
+      → intervention_or (visit_by q st v l).ending None ≡ intervention_at_end (kind_of (visit_by q st v l).ending) i
   stopping-by Verdict.Missed l i e = refl
   stopping-by Verdict.Matched true i e = refl
   stopping-by Verdict.Matched false i e = rw (e refl)
@@ -110,17 +110,17 @@ module _ (q : Given) (reading : q.reading ≡ rust) (ms : List ℕ) (c : Control
     abbrev unit_now : List ℕ
     unit_now = unit_of q reading ms c s visits inside found found-is w w-is
 
-    pub ending-is : (d : DisruptiveOutcome) → d ≡ cond w.closes (unit_disruptive q unit_now) DisruptiveOutcome.Nothing
+    pub ending-is : (d : DisruptiveOutcome) → d ≡ cond (is_some w.closes) (unit_disruptive q unit_now) DisruptiveOutcome.Nothing
         → kind_of v.ending ≡ end_of found d (mode_under q v.after.controls)
     ending-is d e =
-        let z = ending-by q reading st s.chained (entry_by s visits) found (is_link q s.next) d
-        (e ∙ ap (λ (x : VisitOutcome). cond x.closes (unit_disruptive q unit_now) DisruptiveOutcome.Nothing)
+        let z = ending-by q reading st s.chain (entry_by s visits) found (is_link q s.next) d
+        (e ∙ ap (λ (x : VisitOutcome). cond (is_some x.closes) (unit_disruptive q unit_now) DisruptiveOutcome.Nothing)
         (code_is q reading ms c s visits inside found found-is w w-is)) in
         rw (visit-is q reading ms c s visits inside found found-is w w-is) z
 
-    pub stopping-is : (i : Intervention) → (w.closes ≡ true → i ≡ unit_intervention q unit_now)
-        → intervention_or v.ending OptionIntervention.None ≡ intervention_at_end (kind_of v.ending) i
+    pub stopping-is : (i : Intervention) → (is_some w.closes ≡ true → i ≡ unit_intervention q unit_now)
+        → intervention_or v.ending None ≡ intervention_at_end (kind_of v.ending) i
     stopping-is i e =
         rw (visit-is q reading ms c s visits inside found found-is w w-is)
-        (stopping-by q reading st s.chained (entry_by s visits) found (is_link q s.next) i
-        (λ h. e (ap (λ (x : VisitOutcome). x.closes) (code_is q reading ms c s visits inside found found-is w w-is) ∙ h)))
+        (stopping-by q reading st s.chain (entry_by s visits) found (is_link q s.next) i
+        (λ h. e (ap (λ (x : VisitOutcome). is_some x.closes) (code_is q reading ms c s visits inside found found-is w w-is) ∙ h)))

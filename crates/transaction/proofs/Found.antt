@@ -1,5 +1,6 @@
 -- The visit that the code makes is the definition's. Assumes nothing.
 use Prim.Native.Nat.{ℕ, ◌+◌, ◌≤◌, ◌<◌, min}
+use Rattle.std.specs.Prelude.{Option, Some, is_some, unwrap_or}
 use mathlib.Core.Path.{◌≡◌, refl, sym, ap, ◌∙◌}
 use mathlib.Core.Bool.{Bool, true, false, cond}
 use mathlib.Core.List.{List, [], ◌∷◌, ◌++◌, append-nil}
@@ -42,14 +43,14 @@ found-law q c i found h f e =
     rw (z, halving-finds c.ranges c.starts c.ends (record_id (get_or q.rules i no_rule)) h f) at e
 
 -- a visit has what was found in it
-found-by : (past rest : ℕ) (chained : Bool) (first : ℕ) (found : Verdict) (link : Bool)
-    → (found_by past rest chained first found link).verdict ≡ found
-found-by past rest chained first Verdict.Missed link = refl
-found-by past rest chained first Verdict.Matched true = refl
-found-by past rest chained first Verdict.Matched false = refl
-found-by past rest chained first Verdict.Removed true = refl
-found-by past rest chained first Verdict.Removed false = refl
-found-by past rest chained first Verdict.Error link = refl
+found-by : (past rest : ℕ) (chain : Option ℕ) (first : ℕ) (found : Verdict) (link : Bool)
+    → (found_by past rest chain first found link).verdict ≡ found
+found-by past rest chain first Verdict.Missed link = refl
+found-by past rest chain first Verdict.Matched true = refl
+found-by past rest chain first Verdict.Matched false = refl
+found-by past rest chain first Verdict.Removed true = refl
+found-by past rest chain first Verdict.Removed false = refl
+found-by past rest chain first Verdict.Error link = refl
 
 pub visit-verdict : (rules : List Rule) (s : code.State) (visits : ℕ) (found : Verdict) (w : VisitOutcome)
     → w ≡ found_at rules s visits found → w.verdict ≡ found
@@ -57,8 +58,8 @@ unfolding found_at
 visit-verdict rules s visits found w e = rw e (go (ltb s.next (length rules)))
   where
     go : (inside : Bool) → (cond inside
-        (found_by (s.next + 1) (s.next + chain_rest (drop s.next rules)) s.chained (entry_by s visits) found
-        (eqb (get_or rules s.next no_rule).link 1)) (passed found s.next s.chained (entry_by s visits))).verdict ≡ found
+        (found_by (s.next + 1) (s.next + chain_rest (drop s.next rules)) s.chain (entry_by s visits) found
+        (eqb (get_or rules s.next no_rule).link 1)) (passed found s.next s.chain)).verdict ≡ found
     go true = found-by _ _ _ _ found _
     go false = refl
 
@@ -89,14 +90,14 @@ unfolding controls_of
 mode-law q c m now e f = rw e at f
 
 -- a rule of the definitions' state, given what is found and whether it is a link; `w` is what the code finds
-module _ (q : Given) (reading : q.reading ≡ rust) (st : State) (chained : Bool) (first : ℕ) where
+module _ (q : Given) (reading : q.reading ≡ rust) (st : State) (chain : Option ℕ) (first : ℕ) where
   abbrev unit : List ℕ
   unit = st.members ++ (st.next ∷ [])
 
   abbrev pub by_code : Verdict → Bool → VisitOutcome
-  by_code found link = found_by (st.next + 1) (after_chain q st.next) chained first found link
+  by_code found link = found_by (st.next + 1) (after_chain q st.next) chain first found link
 
-  closed-by : (v : Verdict) (l : Bool) → (visit_by q st v l).closed ≡ keep (by_code v l).closes (unit ∷ [])
+  closed-by : (v : Verdict) (l : Bool) → (visit_by q st v l).closed ≡ keep (is_some (by_code v l).closes) (unit ∷ [])
   closed-by Verdict.Missed l = refl
   closed-by Verdict.Matched true = refl
   closed-by Verdict.Matched false = refl
@@ -105,7 +106,7 @@ module _ (q : Given) (reading : q.reading ≡ rust) (st : State) (chained : Bool
   closed-by Verdict.Error l = refl
 
   controls-by : (v : Verdict) (l : Bool)
-      → (visit_by q st v l).after.controls ≡ cond (by_code v l).closes (unit_controls q unit st.controls) st.controls
+      → (visit_by q st v l).after.controls ≡ cond (is_some (by_code v l).closes) (unit_controls q unit st.controls) st.controls
   controls-by Verdict.Missed l = refl
   controls-by Verdict.Matched true = refl
   controls-by Verdict.Matched false = refl
@@ -114,7 +115,7 @@ module _ (q : Given) (reading : q.reading ≡ rust) (st : State) (chained : Bool
   controls-by Verdict.Error l = refl
 
   next-by : (v : Verdict) (l : Bool)
-      → (visit_by q st v l).after.next ≡ cond (by_code v l).closes (after_flow q (by_code v l).after.next (unit_flow q unit))
+      → (visit_by q st v l).after.next ≡ cond (is_some (by_code v l).closes) (after_flow q (by_code v l).after.next (unit_flow q unit))
       (by_code v l).after.next
   next-by Verdict.Missed l = refl
   next-by Verdict.Matched true = sym (add-one st.next)
@@ -124,7 +125,7 @@ module _ (q : Given) (reading : q.reading ≡ rust) (st : State) (chained : Bool
   next-by Verdict.Error l = sym (add-one st.next)
 
   -- a visit that closes a unit found its rule matched
-  matched-by : (v : Verdict) (l : Bool) → (by_code v l).closes ≡ true → v ≡ Verdict.Matched
+  matched-by : (v : Verdict) (l : Bool) → is_some (by_code v l).closes ≡ true → v ≡ Verdict.Matched
   matched-by Verdict.Missed l e = absurd (false-true e)
   matched-by Verdict.Matched true e = refl
   matched-by Verdict.Matched false e = refl
@@ -132,29 +133,39 @@ module _ (q : Given) (reading : q.reading ≡ rust) (st : State) (chained : Bool
   matched-by Verdict.Removed false e = absurd (false-true e)
   matched-by Verdict.Error l e = absurd (false-true e)
 
-  first_by : (v : Verdict) (l : Bool) → (by_code v l).after.first ≡ first
-  first_by Verdict.Missed l = refl
-  first_by Verdict.Matched true = refl
-  first_by Verdict.Matched false = refl
-  first_by Verdict.Removed true = refl
-  first_by Verdict.Removed false = refl
-  first_by Verdict.Error l = refl
+  -- the unit that is closed begins where the chain does, and so does the chain that is open then
+  begun-by : (v : Verdict) (l : Bool) (begun : ℕ) → (by_code v l).closes ≡ Some begun → begun ≡ first
+  begun-by Verdict.Missed l begun e = cc
+  begun-by Verdict.Matched true begun e = cc
+  begun-by Verdict.Matched false begun e = cc
+  begun-by Verdict.Removed true begun e = cc
+  begun-by Verdict.Removed false begun e = cc
+  begun-by Verdict.Error l begun e = cc
+
+  chain-by : (v : Verdict) (l : Bool) (begun visits : ℕ) → first ≡ unwrap_or chain visits
+      → (by_code v l).after.chain ≡ Some begun → begun ≡ first
+  chain-by Verdict.Missed l begun visits d e = cc
+  chain-by Verdict.Matched true begun visits d e = cc
+  chain-by Verdict.Matched false begun visits d e = cc
+  chain-by Verdict.Removed true begun visits d e = cc
+  chain-by Verdict.Removed false begun visits d e = sym (d ∙ ap (λ (o : Option ℕ). unwrap_or o visits) e)
+  chain-by Verdict.Error l begun visits d e = sym (d ∙ ap (λ (o : Option ℕ). unwrap_or o visits) e)
 
   -- the members of the chain that is open then; `since` are the matched entries of the chain with this visit
   members-by : (v : Verdict) (l : Bool) (since : List ℕ) → since ≡ st.members ++ keep (eqb (verdict_number v) 1) (st.next ∷ [])
-      → (chained ≡ false → st.members ≡ []) → keep (by_code v l).after.chained since ≡ (visit_by q st v l).after.members
+      → (is_some chain ≡ false → st.members ≡ []) → keep (is_some (by_code v l).after.chain) since ≡ (visit_by q st v l).after.members
   members-by Verdict.Missed l since e h = refl
   members-by Verdict.Matched true since e h = e
   members-by Verdict.Matched false since e h = refl
   members-by Verdict.Removed true since e h = refl
-  members-by Verdict.Removed false since e h = rw reading (kept chained refl)
+  members-by Verdict.Removed false since e h = rw reading (kept (is_some chain) refl)
     where
-      kept : (b : Bool) → chained ≡ b → keep b since ≡ st.members
+      kept : (b : Bool) → is_some chain ≡ b → keep b since ≡ st.members
       kept true d = e ∙ append-nil st.members
       kept false d = sym (h d)
-  members-by Verdict.Error l since e h = kept chained refl
+  members-by Verdict.Error l since e h = kept (is_some chain) refl
     where
-      kept : (b : Bool) → chained ≡ b → keep b since ≡ st.members
+      kept : (b : Bool) → is_some chain ≡ b → keep b since ≡ st.members
       kept true d = e ∙ append-nil st.members
       kept false d = sym (h d)
 
@@ -173,7 +184,7 @@ module _ (q : Given) (reading : q.reading ≡ rust) (ms : List ℕ) (c : Control
     unit_of = ms ++ (s.next ∷ [])
 
     abbrev by_rule : VisitOutcome
-    by_rule = found_by (s.next + 1) (after_chain q s.next) s.chained (entry_by s visits) found (is_link q s.next)
+    by_rule = found_by (s.next + 1) (after_chain q s.next) s.chain (entry_by s visits) found (is_link q s.next)
 
     pub code_is : w ≡ by_rule
     unfolding found_at is_link rule_at after_chain
@@ -195,25 +206,32 @@ module _ (q : Given) (reading : q.reading ≡ rust) (ms : List ℕ) (c : Control
         go Verdict.Removed false = refl
         go Verdict.Error l = refl
 
-    pub closed_is : visit_of.closed ≡ keep w.closes (unit_of ∷ [])
-    closed_is = rw (visit-is, code_is) (closed-by q reading state_of s.chained (entry_by s visits) found (is_link q s.next))
+    pub closed_is : visit_of.closed ≡ keep (is_some w.closes) (unit_of ∷ [])
+    closed_is = rw (visit-is, code_is) (closed-by q reading state_of s.chain (entry_by s visits) found (is_link q s.next))
 
-    pub controls-is : visit_of.after.controls ≡ cond w.closes (unit_controls q unit_of c) c
-    controls-is = rw (visit-is, code_is) (controls-by q reading state_of s.chained (entry_by s visits) found (is_link q s.next))
+    pub controls-is : visit_of.after.controls ≡ cond (is_some w.closes) (unit_controls q unit_of c) c
+    controls-is = rw (visit-is, code_is) (controls-by q reading state_of s.chain (entry_by s visits) found (is_link q s.next))
 
-    pub next-is : visit_of.after.next ≡ cond w.closes (after_flow q w.after.next (unit_flow q unit_of)) w.after.next
-    next-is = rw (visit-is, code_is) (next-by q reading state_of s.chained (entry_by s visits) found (is_link q s.next))
+    pub next-is : visit_of.after.next ≡ cond (is_some w.closes) (after_flow q w.after.next (unit_flow q unit_of)) w.after.next
+    next-is = rw (visit-is, code_is) (next-by q reading state_of s.chain (entry_by s visits) found (is_link q s.next))
 
-    pub first-is : w.after.first ≡ entry_by s visits
-    first-is = rw code_is (first_by q reading state_of s.chained (entry_by s visits) found (is_link q s.next))
-
-    pub closes-matched : w.closes ≡ true → found ≡ Verdict.Matched
-    closes-matched e =
-        matched-by q reading state_of s.chained (entry_by s visits) found (is_link q s.next)
+    pub unit-begun : (begun : ℕ) → w.closes ≡ Some begun → begun ≡ entry_by s visits
+    unit-begun begun e =
+        begun-by q reading state_of s.chain (entry_by s visits) found (is_link q s.next) begun
         (ap (λ (x : VisitOutcome). x.closes) (sym code_is) ∙ e)
 
+    pub chain-begun : (begun : ℕ) → w.after.chain ≡ Some begun → begun ≡ entry_by s visits
+    chain-begun begun e =
+        chain-by q reading state_of s.chain (entry_by s visits) found (is_link q s.next) begun visits refl
+        (ap (λ (x : VisitOutcome). x.after.chain) (sym code_is) ∙ e)
+
+    pub closes-matched : is_some w.closes ≡ true → found ≡ Verdict.Matched
+    closes-matched e =
+        matched-by q reading state_of s.chain (entry_by s visits) found (is_link q s.next)
+        (ap (λ (x : VisitOutcome). is_some x.closes) (sym code_is) ∙ e)
+
     pub members-are : (since : List ℕ) → since ≡ ms ++ keep (eqb (verdict_number found) 1) (s.next ∷ [])
-        → (s.chained ≡ false → ms ≡ [])
-        → keep w.after.chained since ≡ visit_of.after.members
+        → (is_some s.chain ≡ false → ms ≡ [])
+        → keep (is_some w.after.chain) since ≡ visit_of.after.members
     members-are since e h =
-        rw (visit-is, code_is) (members-by q reading state_of s.chained (entry_by s visits) found (is_link q s.next) since e h)
+        rw (visit-is, code_is) (members-by q reading state_of s.chain (entry_by s visits) found (is_link q s.next) since e h)

@@ -1,4 +1,5 @@
 -- What the loop of `walk_rules` has written after some visits, how far the walk then is, and what one turn adds. Assumes nothing.
+use Rattle.std.specs.Prelude.{Option, None}
 use Prim.Native.Nat.{ℕ, ◌+◌, ◌-◌, ◌*◌, ◌≤◌}
 use mathlib.Core.Path.{◌≡◌, refl, sym, ap, ◌∙◌}
 use mathlib.Core.Bool.{Bool, false, cond}
@@ -7,7 +8,7 @@ use native.Mathlib.Omega.{arith}
 use native.Mathlib.Nat.{sub-zero}
 use lib.ListN.{length, take, drop, length-append, take-append-drop}
 use lib.Seq.{length-take-le, drop-drop}
-use Rattle.reading.specs.declared.OptionIntervention.{OptionIntervention}
+use Rattle.reading.specs.declared.Intervention.{Intervention}
 use Rattle.reading.specs.Records.{data_words, journal_words, matched_in}
 use Rattle.reading.specs.Controls.{is_off}
 use Rattle.reading.specs.Call.{Given, rule_count, mode_under}
@@ -68,7 +69,7 @@ pub record Sofar (q : Given) (t : Transaction) (ids₀ entries₀ journal₀ : L
 
 pub sofar-none : (q : Given) (t : Transaction) (codes ids entries journal : List ℕ)
     → Ready q t codes (walk_lists ids entries journal)
-    → Sofar q t ids entries journal ids entries journal t.controls false (record { next = 0; chained = false; first = 0 }) 0 t.ids
+    → Sofar q t ids entries journal ids entries journal t.controls false (record { next = 0; chain = None }) 0 t.ids
     t.entries
 sofar-none q t codes ids entries journal ready =
     record {
@@ -199,7 +200,7 @@ module _ (q : Given) (t : Transaction) (codes ids₀ entries₀ journal₀ : Lis
 -- what is written at the end is what is promised
 pub finished : (q : Given) (t : Transaction) (ids₀ entries₀ journal₀ ids entries journal : List ℕ) (c : Controls)
     (visits listed written last : ℕ) (e : Ending)
-    (stop : OptionIntervention)
+    (stop : Option Intervention)
     → Written q t ids₀ entries₀ journal₀ (visits_from q t) ids entries journal visits listed written
     → Became (adds_ranges q (visits_from q t)) t.controls c (controls_after (controls_of t.controls) (visits_from q t))
     → cond (is_errs e) 10 0 ≡ answer_by (visits_from q t) → cond (is_errs e) last 0 ≡ error_index_by (visits_from q t)
@@ -234,14 +235,14 @@ finished q t ids₀ entries₀ journal₀ ids entries journal c visits listed wr
 pub sofar-end : (q : Given) (t : Transaction) (ids₀ entries₀ journal₀ ids entries journal : List ℕ) (c : Controls) (added : Bool) (s : State)
     (visits listed written : ℕ)
     → Sofar q t ids₀ entries₀ journal₀ ids entries journal c added s visits listed written → rule_count q ≤ s.next
-    → Walked q t (walk_lists ids₀ entries₀ journal₀) (ended_by Ending.GoesOn 0 visits listed written OptionIntervention.None c)
+    → Walked q t (walk_lists ids₀ entries₀ journal₀) (ended_by Ending.GoesOn 0 visits listed written None c)
     (walk_lists ids entries journal)
 sofar-end q t ids₀ entries₀ journal₀ ids entries journal c added s visits listed written so h =
     let e : visits_from q t ≡ so.done ++ [] =
     rw (← walk_end (rule_count q - visits) q (record { next = s.next; members = so.members; controls = controls_of c }) h)
     so.whole in
     let d : visits_from q t ≡ so.done = e ∙ append-nil so.done in
-    finished q t ids₀ entries₀ journal₀ ids entries journal c visits listed written 0 Ending.GoesOn OptionIntervention.None
+    finished q t ids₀ entries₀ journal₀ ids entries journal c visits listed written 0 Ending.GoesOn None
     (rw d so.lists)
     (rw d so.controls)
     (rw e (sym (answer-after so.done [] so.going)))

@@ -1,4 +1,5 @@
 -- What the phase call promises, from what its parts leave: a refused call, one with nothing to do, and one that was walked.
+use Rattle.std.specs.Prelude.{Option, None}
 use Prim.Native.Nat.{ℕ, ◌+◌, ◌*◌, ◌/◌, ◌≤◌}
 use mathlib.Core.Path.{◌≡◌, refl, sym, ap, subst, ◌∙◌}
 use mathlib.Core.Bool.{Bool, true, false, not, cond, ◌||◌}
@@ -8,7 +9,7 @@ use borrow.Author.Tests.{ne_eqb, ltb-false, eqb-true}
 use lib.ListN.{length, take, drop, replicate, length-append, take-append-drop}
 use lib.Seq.{take_at}
 use lib.Dec.{ltb, eqb}
-use Rattle.reading.specs.declared.OptionIntervention.{OptionIntervention}
+use Rattle.reading.specs.declared.Intervention.{Intervention}
 use Rattle.reading.specs.Lists.{keep, over}
 use Rattle.reading.specs.Controls.{is_off}
 use Rattle.reading.specs.declared.Report.{Report}
@@ -96,7 +97,7 @@ lists_of_walk l = walk_lists l.ids l.entries l.journal
 -- what is to do: not allowed, not stopped, and the mode not Off
 pub record Busy (g : Given) (t : reading.Transaction) : Type 0 where
   pub unallowed : t.allowed ≡ false
-  pub unstopped : t.intervention ≡ OptionIntervention.None
+  pub unstopped : t.intervention ≡ None
   pub not-off : is_off (mode_under g t.controls) ≡ false
 
 pub busy : (g : Given) (t : reading.Transaction) → nothing_to_do g t ≡ false → Busy g t
@@ -110,7 +111,7 @@ busy g t h =
     record { unallowed = p3.0; unstopped = none-held t.intervention p3.1; not-off = p2.1 }
 
 -- then nothing but its controls and counts tells a transaction from a new one
-pub fresh-is : (t : Transaction) → t.allowed ≡ false → t.intervention ≡ OptionIntervention.None → t ≡ fresh t
+pub fresh-is : (t : Transaction) → t.allowed ≡ false → t.intervention ≡ None → t ≡ fresh t
 fresh-is t a n = λ i. record {
   controls = t.controls;
   allowed = a i;
@@ -301,7 +302,7 @@ module _ (g : Given) (t : Transaction) (l : LentLists) where
             w.allowed ∙ (ap allowed_by back ∙ ap (λ (x : Bool). x || allowed_by (visits_of q)) (sym y.unallowed)) in
             let stop : r.transaction.intervention ≡ (outcome_of q).transaction.intervention =
             w.intervention ∙ (ap intervention_by back ∙ (sym (or-none (intervention_by (visits_of q)))
-            ∙ ap (λ (i : OptionIntervention). if_none (intervention_by (visits_of q)) i) (sym y.unstopped))) in
+            ∙ ap (λ (i : Option Intervention). if_none (intervention_by (visits_of q)) i) (sym y.unstopped))) in
             let ids-used : r.transaction.ids ≡ (outcome_of q).transaction.ids =
             w.ids-used ∙ ap (λ (m : List Visit). t.ids + length (ids_of g m)) back in
             let data-used : r.transaction.entries ≡ (outcome_of q).transaction.data-entries =

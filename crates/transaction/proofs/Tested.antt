@@ -56,7 +56,7 @@ module _ (g : Lent) where
   abbrev q : Call
   q = call_at g
 
-  abbrev sizes_of : Sizes
+  abbrev pub sizes_of : Sizes
   sizes_of = record {
     bad_controls = bad_controls (controls_of g.t.controls);
     ids_used = g.t.ids;

@@ -1,4 +1,5 @@
 -- One turn of the loop of `walk_rules`, of what its callees gave. Assumes nothing.
+use Rattle.std.specs.Prelude.{Option, None, Some, is_some, unwrap_or}
 use Prim.Native.Nat.{ℕ, zero, suc, ◌+◌, ◌-◌, ◌*◌, ◌/◌, ◌≤◌, ◌<◌, ◌^◌, min}
 use mathlib.Core.Path.{◌≡◌, refl, sym, ap, ap₂, subst, ◌∙◌}
 use mathlib.Core.Bool.{Bool, true, false, not, cond, ◌||◌, ◌&&◌}
@@ -14,7 +15,6 @@ use Rattle.reading.specs.declared.DisruptiveOutcome.{DisruptiveOutcome}
 use Rattle.reading.specs.declared.DataEntry.{DataEntry}
 use Rattle.reading.specs.declared.Intervention.{Intervention}
 use Rattle.reading.specs.declared.JournalEntry.{JournalEntry}
-use Rattle.reading.specs.declared.OptionIntervention.{OptionIntervention}
 use Rattle.reading.specs.declared.RuleEngineMode.{RuleEngineMode}
 use Rattle.reading.specs.declared.Verdict.{Verdict}
 use Rattle.reading.specs.Lists.{any, keep, over, gather, total}
@@ -71,7 +71,7 @@ use Rattle.transaction.proofs.Turns.{walk_step, walk-off, walk-clip, journal-mor
 use Rattle.transaction.proofs.Turns.{going_more, answer-after, error-after, allowed-after, intervention-after}
 use Rattle.transaction.proofs.Turns.{visit-grows, given-append, adds-append, true-false}
 use Rattle.transaction.proofs.Parts.{whole_length, free-length, put-free}
-use Rattle.transaction.proofs.Found.{entry-is, closed_is, controls-is, next-is, first-is, closes-matched, members-are}
+use Rattle.transaction.proofs.Found.{entry-is, closed_is, controls-is, next-is, unit-begun, chain-begun, closes-matched, members-are}
 use Rattle.transaction.proofs.Ends.{kind_of, end_of, last-kind, error_kind, allow-kind, ending-is, stopping-is}
 use Rattle.transaction.proofs.Progress.{Written, Sofar, finished, journal-done, journal-inside, journal-length, ids-done}
 use Rattle.transaction.proofs.Progress.{ids-inside, ids-length, entries-done, entries-inside, entries-length}
@@ -132,12 +132,12 @@ gave-none q closes unit past ids entries e = record {
 }
 
 -- what is left of a walk by whether a unit was its last
-left-on : (last : Bool) (e : Ending) (at : WalkState) (stop : OptionIntervention) (next : WalkState)
+left-on : (last : Bool) (e : Ending) (at : WalkState) (stop : Option Intervention) (next : WalkState)
     → left_by last e at stop ≡ AfterUnit.GoesOn next → (last ≡ false) × (at ≡ next)
 left-on true e at stop next h = absurd (let z : ◌≡◌ {A = ℕ} 0 1 = cc in omega arith)
 left-on false e at stop next h = (refl, cc)
 
-left_end : (last : Bool) (e : Ending) (at : WalkState) (stop : OptionIntervention) (end : End)
+left_end : (last : Bool) (e : Ending) (at : WalkState) (stop : Option Intervention) (end : End)
     → left_by last e at stop ≡ AfterUnit.Ends end → (last ≡ true) × (record { ending = e; at = at; stop = stop } ≡ end)
 left_end true e at stop end h = (refl, cc)
 left_end false e at stop end h = absurd (let z : ◌≡◌ {A = ℕ} 0 1 = cc in omega arith)
@@ -148,7 +148,7 @@ module _ (mode : RuleEngineMode) (d : DisruptiveOutcome) (at : WalkState) (i : I
   abbrev left_so : AfterUnit
   left_so = left_by (not (is_going (end_by d mode)) || is_off mode) (end_by d mode) at (intervention_at_end (end_by d mode) i)
 
-  pub unit_ends : last ≡ true → (stop : OptionIntervention) → stop ≡ intervention_at_end e i
+  pub unit_ends : last ≡ true → (stop : Option Intervention) → stop ≡ intervention_at_end e i
       → AfterUnit.Ends (record { ending = e; at = at; stop = stop }) ≡ left_so
   unit_ends h stop stop_is = rw (← e-is, ← last-is, h, stop_is)
 
@@ -258,6 +258,10 @@ module _ (turn : Turning) where
 
   abbrev w-is : w ≡ found_at q.rules s visits found
   w-is = turn.w-is
+
+  -- whether the visit closes a unit
+  abbrev closing : Bool
+  closing = is_some w.closes
 
   abbrev st : defined.State
   st = record { next = s.next; members = so.members; controls = controls_of c }
@@ -382,10 +386,7 @@ module _ (turn : Turning) where
         p ∙ ap₂ (λ (l : List ℕ) (n : ℕ). l ++ drop n journal₀) (sym e) k
 
     abbrev part : List ℕ
-    part = matched_in (journal_list (take (2 * (visits + 1) - 2 * w.after.first) (drop (2 * w.after.first) journal')))
-
-    first-now : w.after.first ≡ entry_by s visits
-    first-now = first-is q reading so.members (controls_of c) s visits inside found found-is w w-is
+    part = matched_in (journal_list (take (2 * (visits + 1) - 2 * entry_by s visits) (drop (2 * entry_by s visits) journal')))
 
     length-done : length (journal_of so.done) ≡ visits
     length-done = length-journal so.done ∙ so.lists.count
@@ -407,14 +408,14 @@ module _ (turn : Turning) where
         ∙ ap (λ (x : JournalEntry). keep (eqb x.verdict 1) (x.index ∷ []))
         (entry-is q reading so.members (controls_of c) s visits inside found found-is w w-is))))
 
-    part-start : w.after.first ≤ visits + 1
-    part-start = omega (arith, first-now, so.entry)
+    part-start : entry_by s visits ≤ visits + 1
+    part-start = omega (arith, so.entry)
 
     part-since : part ≡ so.members ++ keep (eqb (verdict_number found) 1) (s.next ∷ [])
     part-since =
-        ap matched_in (journal-part journal' (journal_of done') (drop (2 * (visits + 1)) journal₀) w.after.first (visits + 1)
+        ap matched_in (journal-part journal' (journal_of done') (drop (2 * (visits + 1)) journal₀) (entry_by s visits) (visits + 1)
         journal-now (sym length-now) part-start)
-        ∙ (ap (λ (n : ℕ). matched_in (drop n (journal_of done'))) first-now ∙ since-now)
+        ∙ since-now
 
     pub journal-long : length journal' ≡ length journal₀
     journal-long =
@@ -425,20 +426,20 @@ module _ (turn : Turning) where
     part_end = omega (arith, journal-long, journal-next, as-lent-journal)
 
     -- a visit that closes a unit closes the one that the code looks at
-    unit-part : w.closes ≡ true → part ≡ unit
+    unit-part : closing ≡ true → part ≡ unit
     unit-part e =
         part-since
         ∙ ap (λ (x : Verdict). so.members ++ keep (eqb (verdict_number x) 1) (s.next ∷ []))
         (closes-matched q reading so.members (controls_of c) s visits inside found found-is w w-is e)
 
-    closed-now : v.closed ≡ keep w.closes (unit ∷ [])
+    closed-now : v.closed ≡ keep closing (unit ∷ [])
     closed-now = closed_is q reading so.members (controls_of c) s visits inside found found-is w w-is
 
     -- THE CONTROLS
-    controls-now : v.after.controls ≡ cond w.closes (unit_controls q unit (controls_of c)) (controls_of c)
+    controls-now : v.after.controls ≡ cond closing (unit_controls q unit (controls_of c)) (controls_of c)
     controls-now = controls-is q reading so.members (controls_of c) s visits inside found found-is w w-is
 
-    coded_now : w.closes ≡ true → unit_by_codes (source_of q) codes q.rules part (controls_of c) ≡ v.after.controls
+    coded_now : closing ≡ true → unit_by_codes (source_of q) codes q.rules part (controls_of c) ≡ v.after.controls
     coded_now e =
         let a : unit_controls q unit (controls_of c) ≡ v.after.controls = sym
         (controls-now ∙ ap (λ (b : Bool). cond b (unit_controls q unit (controls_of c)) (controls_of c)) e) in
@@ -452,7 +453,7 @@ module _ (turn : Turning) where
           for-targets = omega (arith, so.held-targets, ready.targets, given_by target_count, one target_count);
         }) ∙ a)
 
-    coded-adds : w.closes ≡ true → unit_adds codes q.rules part ≡ adds
+    coded-adds : closing ≡ true → unit_adds codes q.rules part ≡ adds
     coded-adds e =
         ap (unit_adds codes q.rules) (unit-part e)
         ∙ (unit-removes q codes 4096 ready.digested unit
@@ -460,18 +461,18 @@ module _ (turn : Turning) where
 
     -- THE LISTS
     module _ (u : UnitOutcome) (il el : List ℕ)
-        (u-is : Gave q w.closes part w.after.next (drop listed ids) (drop (4 * written) entries) u il el) where
+        (u-is : Gave q closing part w.after.next (drop listed ids) (drop (4 * written) entries) u il el) where
       abbrev ids' : List ℕ
       ids' = take listed ids ++ il
 
       abbrev entries' : List ℕ
       entries' = take (4 * written) entries ++ el
 
-      new-ids : keep w.closes (unit_ids q part) ≡ ids_of q (v ∷ [])
-      new-ids = new-of (unit_ids q) w.closes part unit v.closed closed-now unit-part
+      new-ids : keep closing (unit_ids q part) ≡ ids_of q (v ∷ [])
+      new-ids = new-of (unit_ids q) closing part unit v.closed closed-now unit-part
 
-      new-data : keep w.closes (unit_data q part) ≡ data_of q (v ∷ [])
-      new-data = new-of (unit_data q) w.closes part unit v.closed closed-now unit-part
+      new-data : keep closing (unit_data q part) ≡ data_of q (v ∷ [])
+      new-data = new-of (unit_data q) closing part unit v.closed closed-now unit-part
 
       ids-room : listed + length (ids_of q (v ∷ [])) ≤ length ids₀
       ids-room =
@@ -498,7 +499,7 @@ module _ (turn : Turning) where
           listed written so.lists
 
       -- all of them fit
-      ids-fit : take (length (drop listed ids)) (keep w.closes (unit_ids q part)) ≡ ids_of q
+      ids-fit : take (length (drop listed ids)) (keep closing (unit_ids q part)) ≡ ids_of q
           (v ∷ [])
       ids-fit =
           let f = free-length (take t.ids ids₀ ++ ids_of q so.done) ids₀ ids listed so.lists.ids-are ids-size
@@ -507,7 +508,7 @@ module _ (turn : Turning) where
           ∙ take_all (length (drop listed ids)) (ids_of q (v ∷ [])) (omega (arith, f, ids-room))
 
       data-fit : take (length (drop (4 * written) entries) / 4)
-          (keep w.closes (unit_data q part)) ≡ data_of q (v ∷ [])
+          (keep closing (unit_data q part)) ≡ data_of q (v ∷ [])
       data-fit =
           let f = free-length (take (4 * t.entries) entries₀ ++ data_words (data_of q so.done)) entries₀ entries (4 * written)
           so.lists.entries-are entries-size
@@ -581,11 +582,11 @@ module _ (turn : Turning) where
           entries-length q t codes ids₀ entries₀ journal₀ ready done' tail whole-now ids' entries' journal' (visits + 1)
           (listed + u.ids) (written + u.entries) written-now
 
-      visit-next : v.after.next ≡ cond w.closes (after_flow q w.after.next (unit_flow q unit)) w.after.next
+      visit-next : v.after.next ≡ cond closing (after_flow q w.after.next (unit_flow q unit)) w.after.next
       visit-next = next-is q reading so.members (controls_of c) s visits inside found found-is w w-is
 
       -- the code goes no further than after the last rule
-      next-by : (b : Bool) → w.closes ≡ b → u.next ≡ cond b (min v.after.next (rule_count q)) v.after.next
+      next-by : (b : Bool) → closing ≡ b → u.next ≡ cond b (min v.after.next (rule_count q)) v.after.next
       next-by true d =
           u-is.next-is
           ∙ (ap₂ (λ (b : Bool) (ms : List ℕ). cond b (min (after_flow q w.after.next (unit_flow q ms)) (rule_count q))
@@ -602,7 +603,7 @@ module _ (turn : Turning) where
       next_past false n d = omega (arith, goes)
 
       next_more : s.next < u.next
-      next_more = next_past w.closes u.next (next-by w.closes refl)
+      next_more = next_past closing u.next (next-by closing refl)
 
       -- fewer rules are left
       fewer-left : (n : ℕ) → s.next < n → n - u.next < n - s.next
@@ -623,10 +624,10 @@ module _ (turn : Turning) where
         added-now : added' ≡ adds_ranges q done'
         added-now = c'-is.flag ∙ (ap (λ (b : Bool). b || adds) so.added_is ∙ sym adds-now)
 
-        disruptive-now : u.disruptive ≡ cond w.closes (unit_disruptive q unit) DisruptiveOutcome.Nothing
-        disruptive-now = u-is.disruptive-is ∙ go w.closes refl
+        disruptive-now : u.disruptive ≡ cond closing (unit_disruptive q unit) DisruptiveOutcome.Nothing
+        disruptive-now = u-is.disruptive-is ∙ go closing refl
           where
-            go : (b : Bool) → w.closes ≡ b → cond b (unit_disruptive q part) DisruptiveOutcome.Nothing ≡ cond b
+            go : (b : Bool) → closing ≡ b → cond b (unit_disruptive q part) DisruptiveOutcome.Nothing ≡ cond b
                 (unit_disruptive q unit) DisruptiveOutcome.Nothing
             go true d = ap (unit_disruptive q) (unit-part d)
             go false d = refl
@@ -654,7 +655,7 @@ module _ (turn : Turning) where
             none false = refl
 
         sofar-last : (last : ℕ) → cond (is_errs e) last 0 ≡ cond (is_errs e) s.next 0
-            → (stop : OptionIntervention) → stop ≡ intervention_at_end e (unit_intervention q part)
+            → (stop : Option Intervention) → stop ≡ intervention_at_end e (unit_intervention q part)
             → (not (is_going e) || is_off (mode_under q (controls_of c'))) ≡ true
             → Walked q t (walk_lists ids₀ entries₀ journal₀)
             (ended_by e last (visits + 1) (listed + u.ids) (written + u.entries) stop c') (walk_lists ids' entries' journal')
@@ -683,7 +684,7 @@ module _ (turn : Turning) where
 
         sofar-more : (not (is_going e) || is_off (mode_under q (controls_of c'))) ≡ false
             → Sofar q t ids₀ entries₀ journal₀ ids' entries' journal' c' added'
-            (record { next = u.next; chained = w.after.chained; first = w.after.first })
+            (record { next = u.next; chain = w.after.chain })
             (visits + 1) (listed + u.ids) (written + u.entries)
         sofar-more h =
             record {
@@ -701,8 +702,8 @@ module _ (turn : Turning) where
               held-targets = rw c'-is.meaning (omega (arith, so.held-targets, targets-now, given-now target_count));
               merged = rw c'-is.meaning (visit-merged q st so.merged);
               not-off = both.1;
-              agree = agree-now w.after.chained refl;
-              entry = entry-now w.after.chained;
+              agree = agree-now w.after.chain refl;
+              entry = entry-now w.after.chain refl;
               ahead = ahead-now;
             }
           where
@@ -726,43 +727,50 @@ module _ (turn : Turning) where
 
             rest-is : walk rest-count q v.after ≡ walk rest-count q after-state
             rest-is =
-                walk-by w.closes u.next (next-by w.closes refl)
+                walk-by closing u.next (next-by closing refl)
                 ∙ ap (λ (x : plain.Controls). walk rest-count q
                 (record { next = u.next; members = v.after.members; controls = x })) (sym c'-is.meaning)
 
             ahead-now : visits + 1 ≤ u.next
             ahead-now = omega (arith, next_more, so.ahead)
 
-            none_open : s.chained ≡ false → so.members ≡ []
-            none_open d =
-                let z : length (journal_of so.done) ≤ visits = omega (arith, length-done) in
-                sym so.agree ∙ (ap (λ (b : Bool). matched_in (drop (cond b s.first visits) (journal_of so.done))) d ∙ ap
-                matched_in (drop_of_length-le (journal_of so.done) z))
+            none_open : is_some s.chain ≡ false → so.members ≡ []
+            none_open = go s.chain refl
+              where
+                go : (o : Option ℕ) → s.chain ≡ o → is_some o ≡ false → so.members ≡ []
+                go (Some n) d h = absurd (true-false h)
+                go None d h =
+                    let z : length (journal_of so.done) ≤ visits = omega (arith, length-done) in
+                    sym so.agree ∙ (ap (λ (o : Option ℕ). matched_in (drop (unwrap_or o visits) (journal_of so.done))) d ∙ ap
+                    matched_in (drop_of_length-le (journal_of so.done) z))
 
-            chain-is : keep w.after.chained (matched_in (drop (entry_by s visits) (journal_of done'))) ≡ v.after.members
+            chain-is : keep (is_some w.after.chain) (matched_in (drop (entry_by s visits) (journal_of done'))) ≡ v.after.members
             chain-is =
                 members-are q reading so.members (controls_of c) s visits inside found found-is w w-is
                 (matched_in (drop (entry_by s visits) (journal_of done'))) since-now none_open
 
-            agree-now : (b : Bool) → w.after.chained ≡ b → matched_in
-                (drop (cond b w.after.first (visits + 1)) (journal_of done')) ≡ v.after.members
-            agree-now true d =
-                ap (λ (n : ℕ). matched_in (drop n (journal_of done'))) first-now
-                ∙ (ap (λ (b : Bool). keep b (matched_in (drop (entry_by s visits) (journal_of done')))) (sym d) ∙ chain-is)
-            agree-now false d =
+            begun-now : (n : ℕ) → w.after.chain ≡ Some n → n ≡ entry_by s visits
+            begun-now = chain-begun q reading so.members (controls_of c) s visits inside found found-is w w-is
+
+            agree-now : (o : Option ℕ) → w.after.chain ≡ o → matched_in
+                (drop (unwrap_or o (visits + 1)) (journal_of done')) ≡ v.after.members
+            agree-now (Some n) d =
+                ap (λ (n : ℕ). matched_in (drop n (journal_of done'))) (begun-now n d)
+                ∙ (ap (λ (o : Option ℕ). keep (is_some o) (matched_in (drop (entry_by s visits) (journal_of done')))) (sym d) ∙ chain-is)
+            agree-now None d =
                 let z : length (journal_of done') ≤ visits + 1 = omega (arith, length-now) in
                 ap matched_in (drop_of_length-le (journal_of done') z)
-                ∙ (ap (λ (b : Bool). keep b (matched_in (drop (entry_by s visits) (journal_of done')))) (sym d) ∙ chain-is)
+                ∙ (ap (λ (o : Option ℕ). keep (is_some o) (matched_in (drop (entry_by s visits) (journal_of done')))) (sym d) ∙ chain-is)
 
-            entry-now : (b : Bool) → cond b w.after.first (visits + 1) ≤ visits + 1
-            entry-now true = omega (arith, first-now, so.entry)
-            entry-now false = omega arith
+            entry-now : (o : Option ℕ) → w.after.chain ≡ o → unwrap_or o (visits + 1) ≤ visits + 1
+            entry-now (Some n) d = omega (arith, begun-now n d, so.entry)
+            entry-now None d = omega arith
 
     -- A VISIT THAT CLOSES NO UNIT
-    module _ (waits : w.closes ≡ false) where
-      gave-nothing : Gave q w.closes part w.after.next (drop listed ids) (drop (4 * written) entries) (nothing w.after.next)
+    module _ (waits : closing ≡ false) where
+      gave-nothing : Gave q closing part w.after.next (drop listed ids) (drop (4 * written) entries) (nothing w.after.next)
           (drop listed ids) (drop (4 * written) entries)
-      gave-nothing = gave-none q w.closes part w.after.next (drop listed ids) (drop (4 * written) entries) waits
+      gave-nothing = gave-none q closing part w.after.next (drop listed ids) (drop (4 * written) entries) waits
 
       controls-same : Changed adds added c added c v.after.controls
       controls-same =
@@ -783,42 +791,59 @@ module _ (turn : Turning) where
       fewer-left-on = fewer-left (nothing w.after.next) (drop listed ids) (drop (4 * written) entries) gave-nothing
 
     -- A RULE ERROR
-    unclosed : visit.is_error found ≡ true → w.closes ≡ false
-    unclosed h = not-closed w.closes refl
+    unclosed : visit.is_error found ≡ true → closing ≡ false
+    unclosed h = not-closed closing refl
       where
-        not-closed : (b : Bool) → w.closes ≡ b → b ≡ false
+        not-closed : (b : Bool) → closing ≡ b → b ≡ false
         not-closed false d = refl
         not-closed true d =
             absurd (true-false (sym h ∙ ap visit.is_error
             (closes-matched q reading so.members (controls_of c) s visits inside found found-is w w-is d)))
 
     pub sofar-error : visit.is_error found ≡ true
-        → Walked q t (walk_lists ids₀ entries₀ journal₀) (ended_by Ending.Errs s.next (visits + 1) listed written OptionIntervention.None c)
+        → Walked q t (walk_lists ids₀ entries₀ journal₀) (ended_by Ending.Errs s.next (visits + 1) listed written None c)
         (walk_lists ids entries journal')
     sofar-error h =
         rw (take-append-drop listed ids, take-append-drop (4 * written) entries, add-zero listed, add-zero written) at
         (sofar-last (nothing w.after.next) (drop listed ids) (drop (4 * written) entries) (gave-nothing (unclosed h)) added c (controls-same (unclosed h))
-        Ending.Errs (rw h) s.next refl OptionIntervention.None refl refl)
+        Ending.Errs (rw h) s.next refl None refl refl)
 
     -- A VISIT THAT CLOSES A UNIT
-    module _ (closes : w.closes ≡ true) (counts : ControlCounts) (starts ends phases positions : List ℕ)
+    module _ (first : ℕ) (begins : w.closes ≡ Some first) (counts : ControlCounts) (starts ends phases positions : List ℕ)
         (c-is : c ≡ struct_of counts starts ends phases positions) (added_is : added ≡ counts.added) where
       abbrev at : WalkState
       at = record { state = w.after; visits = visits + 1; ids = listed; entries = written; counts = counts }
 
-      pub room-closed : Room at ids entries journal'
-      room-closed = record { first = part-start; visits = part_end; ids-used = ids-start; entries-used = entries-start }
+      closes : closing ≡ true
+      closes = ap is_some begins
+
+      first-is : first ≡ entry_by s visits
+      first-is = unit-begun q reading so.members (controls_of c) s visits inside found found-is w w-is first begins
+
+      pub room-closed : Room at first ids entries journal'
+      room-closed = record { begun = omega (arith, first-is, part-start); visits = part_end; ids-used = ids-start; entries-used = entries-start }
 
       module _ (r : AfterUnit) (ids₁ entries₁ starts₁ ends₁ phases₁ positions₁ : List ℕ)
-          (x : UnitClosed q codes at ids entries journal' starts ends phases positions r ids₁ entries₁ starts₁ ends₁ phases₁ positions₁)
+          (left-so : UnitClosed q codes at first ids entries journal' starts ends phases positions r ids₁ entries₁ starts₁ ends₁ phases₁ positions₁)
         where
+          x : UnitClosed q codes at (entry_by s visits) ids entries journal' starts ends phases positions r ids₁ entries₁ starts₁ ends₁ phases₁ positions₁
+          x = subst (λ (n : ℕ). UnitClosed q codes at n ids entries journal' starts ends phases positions r ids₁ entries₁ starts₁ ends₁ phases₁ positions₁)
+              first-is left-so
+
           abbrev u : UnitOutcome
           u = x.gave
 
-          gave : Gave q w.closes part w.after.next (drop listed ids) (drop (4 * written) entries) u x.free-ids
+          gave : Gave q closing part w.after.next (drop listed ids) (drop (4 * written) entries) u x.free-ids
               x.free-entries
-          gave = gave-unit q w.closes part w.after.next (drop listed ids) (drop (4 * written) entries) u x.free-ids
+          gave = gave-unit q closing part w.after.next (drop listed ids) (drop (4 * written) entries) u x.free-ids
               x.free-entries closes x.wrote
+
+          -- what holds of the two lists as they are written holds of those that are found
+          put : (P : List ℕ → List ℕ → Type 0) → P (take listed ids ++ x.free-ids) (take (4 * written) entries ++ x.free-entries)
+              → P ids₁ entries₁
+          put P p =
+              subst (λ (l : List ℕ). P l entries₁) (sym x.ids-are)
+              (subst (P (take listed ids ++ x.free-ids)) (sym x.entries-are) p)
 
           abbrev c₁ : Controls
           c₁ = struct_of x.counts starts₁ ends₁ phases₁ positions₁
@@ -856,7 +881,8 @@ module _ (turn : Turning) where
             pub sofar-closed : Sofar q t ids₀ entries₀ journal₀ ids₁ entries₁ journal'
                 (struct_of next.counts starts₁ ends₁ phases₁ positions₁) next.counts.added next.state next.visits next.ids next.entries
             sofar-closed =
-                rw (x.ids-are, x.entries-are)
+                put (λ (l m : List ℕ). Sofar q t ids₀ entries₀ journal₀ l m journal'
+                (struct_of next.counts starts₁ ends₁ phases₁ positions₁) next.counts.added next.state next.visits next.ids next.entries)
                 (subst (λ (n : WalkState). Sofar q t ids₀ entries₀ journal₀ (take listed ids ++ x.free-ids)
                 (take (4 * written) entries ++ x.free-entries) journal'
                 (struct_of n.counts starts₁ ends₁ phases₁ positions₁) n.counts.added n.state n.visits n.ids n.entries) left.1
@@ -874,7 +900,9 @@ module _ (turn : Turning) where
           walked-closed end ends_so =
               let l = left_end (not (is_going e) || is_off mode) e (moved_by at u x.counts) (intervention_at_end e (unit_intervention q part)) end
               (sym x.left_is ∙ ends_so) in
-              rw (x.ids-are, x.entries-are)
+              put (λ (l m : List ℕ). Walked q t (walk_lists ids₀ entries₀ journal₀)
+              (ended_by end.ending end.at.state.next end.at.visits end.at.ids end.at.entries end.stop
+              (struct_of end.at.counts starts₁ ends₁ phases₁ positions₁)) (walk_lists l m journal'))
               (subst (λ (y : End). Walked q t (walk_lists ids₀ entries₀ journal₀)
               (ended_by y.ending y.at.state.next y.at.visits y.at.ids y.at.entries y.stop
               (struct_of y.at.counts starts₁ ends₁ phases₁ positions₁)) (walk_lists (take listed ids ++ x.free-ids)

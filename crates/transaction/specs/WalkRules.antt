@@ -1,6 +1,6 @@
 -- What the walk's function asks, and what it leaves. Only functions that the phase call is made of cite this.
-use Rattle.std.specs.Prelude.{ℕ, ◌+◌, ◌-◌, ◌*◌, ◌≤◌, ◌≡◌, Bool, true, false, cond, not, ◌||◌, List, ◌++◌, length, take, drop, replicate}
-use Rattle.reading.specs.declared.OptionIntervention.{OptionIntervention}
+use Rattle.std.specs.Prelude.{ℕ, ◌+◌, ◌-◌, ◌*◌, ◌≤◌, ◌≡◌, Bool, true, false, cond, not, ◌||◌, List, ◌++◌, length, take, drop, replicate, Option, None}
+use Rattle.reading.specs.declared.Intervention.{Intervention}
 use Rattle.reading.specs.declared.RuleEngineMode.{RuleEngineMode}
 use Rattle.reading.specs.Lists.{over}
 use Rattle.reading.specs.Records.{data_words, journal_words, journal_list, matched_in}
@@ -35,7 +35,7 @@ use Rattle.transaction.specs.RunPhase.{transaction_of}
 
 -- a transaction without allow and intervention
 abbrev pub fresh : Transaction → Transaction
-fresh t = record { controls = t.controls; allowed = false; intervention = OptionIntervention.None; ids = t.ids; entries = t.entries }
+fresh t = record { controls = t.controls; allowed = false; intervention = None; ids = t.ids; entries = t.entries }
 
 -- the lists that the walk writes, as numbers
 pub record WalkLists : Type 0 where
@@ -89,7 +89,7 @@ is_allows Ending.Errs = false
 is_allows Ending.Stops = false
 
 -- the answer of a walk that ended so at the rule `last`, but for what is told besides
-abbrev pub ended_by : Ending → ℕ → ℕ → ℕ → ℕ → OptionIntervention → Controls → Phase
+abbrev pub ended_by : Ending → ℕ → ℕ → ℕ → ℕ → Option Intervention → Controls → Phase
 ended_by e last visits ids entries stop c = record {
   answer = record { answer = cond (is_errs e) 10 0; error = cond (is_errs e) last 0; visits = visits; report = no_report };
   transaction = record { controls = c; allowed = is_allows e; intervention = stop; ids = ids; entries = entries };
@@ -113,30 +113,31 @@ pub record Walked (g : Given) (t : Transaction) (l : WalkLists) (r : Phase) (l' 
 -- how far the walk is before the first rule
 abbrev pub start_of : Transaction → WalkState
 start_of t = record {
-  state = record { next = 0; chained = false; first = 0 };
+  state = record { next = 0; chain = None };
   visits = 0;
   ids = t.ids;
   entries = t.entries;
   counts = record { settings = t.controls.settings; ranges = t.controls.ranges; targets = t.controls.targets; added = false };
 }
 
--- A CLOSED UNIT. `at` is how far the walk is with the visit of the closing rule, before the unit's flow.
+-- A CLOSED UNIT. `at` is how far the walk is with the visit of the closing rule, before the unit's flow, and `first` the place in the
+-- journal of the unit's first entry.
 
 -- what closing a unit asks: its entries are in the journal, and no list is shorter than what of it is in use
-pub record Room (at : WalkState) (ids entries journal : List ℕ) : Type 0 where
-  pub first : at.state.first ≤ at.visits
+pub record Room (at : WalkState) (first : ℕ) (ids entries journal : List ℕ) : Type 0 where
+  pub begun : first ≤ at.visits
   pub visits : 2 * at.visits ≤ length journal
   pub ids-used : at.ids ≤ length ids
   pub entries-used : 4 * at.entries ≤ length entries
 
 -- the unit's members: the matched entries of the journal from its first one on
-abbrev pub members_at : WalkState → List ℕ → List ℕ
-members_at at journal = matched_in (journal_list (take (2 * at.visits - 2 * at.state.first) (drop (2 * at.state.first) journal)))
+abbrev pub members_at : WalkState → ℕ → List ℕ → List ℕ
+members_at at first journal = matched_in (journal_list (take (2 * at.visits - 2 * first) (drop (2 * first) journal)))
 
 -- how far the walk is after a unit that gave so much, with these settings and counts of the controls
 abbrev pub moved_by : WalkState → UnitOutcome → ControlCounts → WalkState
 moved_by at gave counts = record {
-  state = record { next = gave.next; chained = at.state.chained; first = at.state.first };
+  state = record { next = gave.next; chain = at.state.chain };
   visits = at.visits;
   ids = at.ids + gave.ids;
   entries = at.entries + gave.entries;
@@ -144,7 +145,7 @@ moved_by at gave counts = record {
 }
 
 -- where the walk is left so: it ends, where this was the last visit
-abbrev pub left_by : Bool → Ending → WalkState → OptionIntervention → AfterUnit
+abbrev pub left_by : Bool → Ending → WalkState → Option Intervention → AfterUnit
 left_by last e at stop = cond last (AfterUnit.Ends (record { ending = e; at = at; stop = stop })) (AfterUnit.GoesOn at)
 
 -- the same by the mode after the unit's controls, the unit's last disruptive action and its intervention
@@ -154,18 +155,18 @@ left_under mode g unit at gave counts =
     left_by (not (is_going e) || is_off mode) e (moved_by at gave counts) (intervention_at_end e (unit_intervention g unit))
 
 -- what closing a unit leaves: `gave` is what the unit gave, and `held` the settings and counts after its controls
-pub record UnitClosed (g : Given) (codes : List ℕ) (at : WalkState) (ids entries journal starts ends phases positions : List ℕ) (r : AfterUnit)
+pub record UnitClosed (g : Given) (codes : List ℕ) (at : WalkState) (first : ℕ) (ids entries journal starts ends phases positions : List ℕ) (r : AfterUnit)
     (ids' entries' starts' ends' phases' positions' : List ℕ) : Type 0 where
   pub gave : UnitOutcome
   pub counts : ControlCounts
   -- the free ends of the two lists after it
   pub free-ids : List ℕ
   pub free-entries : List ℕ
-  pub wrote : Wrote g (members_at at journal) at.state.next (drop at.ids ids) (drop (4 * at.entries) entries) gave free-ids
+  pub wrote : Wrote g (members_at at first journal) at.state.next (drop at.ids ids) (drop (4 * at.entries) entries) gave free-ids
       free-entries
   pub ids-are : ids' ≡ take at.ids ids ++ free-ids
   pub entries-are : entries' ≡ take (4 * at.entries) entries ++ free-entries
-  pub turned : Turned (unit_adds codes g.rules (members_at at journal)) at.counts starts ends phases positions counts starts' ends' phases' positions'
-      (unit_by_codes (record { phase = g.settings.phase; text = g.text; actions = g.actions }) codes g.rules (members_at at journal)
+  pub turned : Turned (unit_adds codes g.rules (members_at at first journal)) at.counts starts ends phases positions counts starts' ends' phases' positions'
+      (unit_by_codes (record { phase = g.settings.phase; text = g.text; actions = g.actions }) codes g.rules (members_at at first journal)
       (controls_of (struct_of at.counts starts ends phases positions)))
-  pub left_is : r ≡ left_under (mode_under g (controls_of (struct_of counts starts' ends' phases' positions'))) g (members_at at journal) at gave counts
+  pub left_is : r ≡ left_under (mode_under g (controls_of (struct_of counts starts' ends' phases' positions'))) g (members_at at first journal) at gave counts

@@ -8,12 +8,12 @@ ghost use Rattle.transaction.specs.RunPhase.{answer_without};
 ghost use Rattle.transaction.specs.WalkRules.{is_going, is_errs, is_allows, ended_by};
 
 use crate::types::{Answer, End, Phase, Transaction};
-use apply::append::ControlCounts;
+use apply::append::{ControlArrays, ControlCounts};
 use control::fields;
 use control::state::{Controls, Settings};
 use intervention::decide;
 use intervention::decide::Ending;
-use reading::{OptionIntervention, RuleEngineMode, limits};
+use reading::{Intervention, RuleEngineMode};
 use report::verdicts;
 use unit::close::UnitOutcome;
 
@@ -21,20 +21,14 @@ use unit::close::UnitOutcome;
 fn mode_under(ruleset_mode: RuleEngineMode, settings: Settings) -> RuleEngineMode
     ensures { result ≡ mode_or ruleset_mode settings.mode }
 {
-    let setting = settings.mode;
-    fields::mode_or(ruleset_mode, setting)
+    fields::mode_or(ruleset_mode, settings.mode)
 }
 
 // Whether a unit is the last: it ended the phase, or the mode is Off after it.
 fn is_last(ending: Ending, mode: RuleEngineMode) -> bool
     ensures { result ≡ (not (is_going ending) || is_off mode) }
 {
-    match ending {
-        Ending::GoesOn => decide::is_off(mode),
-        Ending::Allows => true,
-        Ending::Errs => true,
-        Ending::Stops => true,
-    }
+    !matches!(ending, Ending::GoesOn) || decide::is_off(mode)
 }
 
 // How a closed unit leaves the phase, and whether it is the last.
@@ -49,12 +43,12 @@ pub fn turn_end(u: UnitOutcome, ruleset_mode: RuleEngineMode, h: ControlCounts) 
     ensures ending_value { result.ending ≡ end_by u.disruptive (mode_or ruleset_mode h.settings.mode) }
     ensures last_value { result.last ≡ (not (is_going result.ending) || is_off (mode_or ruleset_mode h.settings.mode)) }
 {
-    let disruptive = u.disruptive;
-    let settings = h.settings;
-    let now = mode_under(ruleset_mode, settings);
-    let ending = decide::end_of(disruptive, now);
-    let last = is_last(ending, now);
-    TurnEnd { ending, last }
+    let now = mode_under(ruleset_mode, h.settings);
+    let ending = decide::end_of(u.disruptive, now);
+    TurnEnd {
+        ending,
+        last: is_last(ending, now),
+    }
 }
 
 // 10 after an error, else 0.
@@ -62,10 +56,8 @@ fn answer_of(ending: Ending) -> u64
     ensures { result ≡ cond (is_errs ending) 10 0 }
 {
     match ending {
-        Ending::GoesOn => 0,
-        Ending::Allows => 0,
         Ending::Errs => 10,
-        Ending::Stops => 0,
+        Ending::GoesOn | Ending::Allows | Ending::Stops => 0,
     }
 }
 
@@ -74,111 +66,76 @@ fn error_of(ending: Ending, last: usize) -> u64
     ensures { result ≡ cond (is_errs ending) last 0 }
 {
     match ending {
-        Ending::GoesOn => 0,
-        Ending::Allows => 0,
         Ending::Errs => last as u64,
-        Ending::Stops => 0,
+        Ending::GoesOn | Ending::Allows | Ending::Stops => 0,
     }
 }
 
 fn gives_allow(ending: Ending) -> bool
     ensures { result ≡ is_allows ending }
 {
-    match ending {
-        Ending::GoesOn => false,
-        Ending::Allows => true,
-        Ending::Errs => false,
-        Ending::Stops => false,
-    }
+    matches!(ending, Ending::Allows)
 }
 
 // The answer of a call without a visit, refused or with nothing to do.
 pub fn unvisited(answer: u64) -> Answer
     ensures { result ≡ answer_without answer }
 {
-    let report = verdicts::no_report();
     Answer {
         answer,
         error: 0,
         visits: 0,
-        report,
+        report: verdicts::no_report(),
     }
 }
 
 // The answer of a walk that ended so, but for what is told besides, the controls from their parts. After an error the walk stands at the rule that had it. The
 // transaction had no allow and no intervention.
-pub fn ended(
-    end: End,
-    starts: [u64; limits::RANGES],
-    ends: [u64; limits::RANGES],
-    phases: [u64; limits::TARGETS],
-    positions: [u64; limits::TARGETS],
-) -> Phase
+pub fn ended(end: End, arrays: ControlArrays) -> Phase
     ensures { result ≡ ended_by end.ending end.at.state.next end.at.visits end.at.ids end.at.entries end.stop
-        (struct_of end.at.counts starts ends phases positions) }
+        (struct_of end.at.counts arrays.starts arrays.ends arrays.phases arrays.positions) }
 {
-    let ending = end.ending;
     let at = end.at;
-    let report = verdicts::no_report();
-    let answer = Answer {
-        answer: answer_of(ending),
-        error: error_of(ending, at.state.next),
-        visits: at.visits as u64,
-        report,
-    };
-    let allowed = gives_allow(ending);
-    let h = at.counts;
-    let settings = h.settings;
-    let controls = Controls {
-        settings,
+    let ControlArrays {
         starts,
         ends,
-        ranges: h.ranges,
         phases,
         positions,
-        targets: h.targets,
-    };
-    let intervention = end.stop;
+    } = arrays;
     Phase {
-        answer,
+        answer: Answer {
+            answer: answer_of(end.ending),
+            error: error_of(end.ending, at.state.next),
+            visits: at.visits as u64,
+            report: verdicts::no_report(),
+        },
         transaction: Transaction {
-            controls,
-            allowed,
-            intervention,
+            controls: Controls {
+                settings: at.counts.settings,
+                starts,
+                ends,
+                ranges: at.counts.ranges,
+                phases,
+                positions,
+                targets: at.counts.targets,
+            },
+            allowed: gives_allow(end.ending),
+            intervention: end.stop,
             ids: at.ids,
             entries: at.entries,
         },
     }
 }
 
-// Whether an intervention is held.
-fn is_stopped(intervention: OptionIntervention) -> bool
-    ensures { result ≡ is_stopped intervention }
-{
-    match intervention {
-        OptionIntervention::None => false,
-        OptionIntervention::Some(_) => true,
-    }
-}
-
 // Nothing is done if already allowed or stopped, if the mode is Off, or if there are no rules.
 pub fn is_idle(
     allowed: bool,
-    stop: OptionIntervention,
+    stop: Option<Intervention>,
     ruleset_mode: RuleEngineMode,
     settings: Settings,
     rules: usize,
 ) -> bool
     ensures { result ≡ (allowed || is_stopped stop || is_off (mode_or ruleset_mode settings.mode) || eqb rules 0) }
 {
-    if allowed {
-        return true;
-    }
-    if is_stopped(stop) {
-        return true;
-    }
-    if decide::is_off(mode_under(ruleset_mode, settings)) {
-        return true;
-    }
-    rules == 0
+    allowed || stop.is_some() || decide::is_off(mode_under(ruleset_mode, settings)) || rules == 0
 }

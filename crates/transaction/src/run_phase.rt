@@ -18,9 +18,8 @@ use report::verdicts;
 fn as_lent(answer: u64, t: Transaction) -> Phase
     ensures { result ≡ record { answer = answer_without answer; transaction = t } }
 {
-    let answer = outcome::unvisited(answer);
     Phase {
-        answer,
+        answer: outcome::unvisited(answer),
         transaction: t,
     }
 }
@@ -35,10 +34,8 @@ fn sizes_of(t: Transaction, ids: usize, entries: usize) -> Sizes
       entries = entries / 4;
     } }
 {
-    let controls = t.controls;
-    let bad_controls = controls.is_bad();
     Sizes {
-        bad_controls,
+        bad_controls: t.controls.is_bad(),
         ids_used: t.ids,
         entries_used: t.entries,
         ids,
@@ -63,52 +60,31 @@ pub fn run_phase(
     ensures { Ran (given_of call rules.now actions.now (marker_list markers.now) text.now outcomes.now) t
         (lent ids.old entries.old journal.old) result (lent ids.new entries.new journal.new) }
 {
-    let ranges = t.controls.ranges;
-    let targets = t.controls.targets;
     let sizes = sizes_of(t, ids.len(), entries.len());
     let room = Room {
         journal: journal.len() / widths::JOURNAL_ENTRY,
     };
-    let refusal = first::first_refusal(call, rules, actions, markers, text, outcomes, sizes, room);
-    if refusal != 0 {
-        return as_lent(refusal, t);
+    if let Err(refusal) = first::first_refusal(
+        call, rules, actions, markers, text, outcomes, sizes, room,
+    ) {
+        return as_lent(refusal.number(), t); // 1 to 7
     }
     let mut codes = [0u16; limits::ACTIONS];
-    let some_unsupported = codes::write_codes(actions, text, &mut codes[0..]);
+    let some_unsupported = codes::write_codes(actions, text, &mut codes);
     let used = actions.len() / widths::ACTION;
-    let limit = totals::limit_refusal(rules, &codes[0..used], ranges, targets);
-    if limit != 0 {
-        return as_lent(limit, t);
+    let held = t.controls;
+    if let Err(refusal) = totals::limit_refusal(rules, &codes[..used], held.ranges, held.targets) {
+        return as_lent(refusal.number(), t); // 8 or 9
     }
-    let settings = t.controls.settings;
-    let stop = t.intervention;
     let ruleset_mode = fields::mode_of_number(call.mode);
     let n = rules.len() / widths::RULE;
-    if outcome::is_idle(t.allowed, stop, ruleset_mode, settings, n) {
+    if outcome::is_idle(t.allowed, t.intervention, ruleset_mode, held.settings, n) {
         return as_lent(0, t);
     }
     let mut p = walk::walk_rules(
-        t,
-        call,
-        rules,
-        actions,
-        markers,
-        text,
-        outcomes,
-        &codes[0..limits::ACTIONS],
-        ids,
-        entries,
-        journal,
+        t, call, rules, actions, markers, text, outcomes, &codes, ids, entries, journal,
     );
     let visited = widths::JOURNAL_ENTRY * p.answer.visits as usize;
-    let mut answer = p.answer;
-    let report = verdicts::tell(
-        &journal[0..visited],
-        rules,
-        &codes[0..limits::ACTIONS],
-        some_unsupported,
-    );
-    answer.report = report;
-    p.answer = answer;
+    p.answer.report = verdicts::tell(&journal[..visited], rules, &codes, some_unsupported);
     p
 }

@@ -3,7 +3,7 @@
 use apply::append::ControlCounts;
 use control::state::Controls;
 use intervention::decide::Ending;
-use reading::{OptionIntervention, Report};
+use reading::{Intervention, Report};
 use unit::visit::State;
 
 // A transaction: the controls, the allowed flag, an intervention or none, and how many matched ids and data entries are in use.
@@ -11,7 +11,7 @@ use unit::visit::State;
 pub struct Transaction {
     pub controls: Controls,
     pub allowed: bool,
-    pub intervention: OptionIntervention,
+    pub intervention: Option<Intervention>,
     pub ids: usize,
     pub entries: usize,
 }
@@ -54,10 +54,10 @@ pub struct WalkState {
 pub struct End {
     pub ending: Ending,
     pub at: WalkState,
-    pub stop: OptionIntervention,
+    pub stop: Option<Intervention>,
 }
 
-// Where a closed unit leaves the walk.
+// Where a closed unit leaves the walk. An enum of its own: neither end is an error, as `Result` would say.
 #[derive(Clone, Copy)]
 pub enum AfterUnit {
     GoesOn(WalkState),

@@ -1,5 +1,5 @@
 // The walk over a phase's rules: visit by visit, and what each closed unit gives.
-ghost use Rattle.std.specs.Prelude.{◌≡◌, cond, ℕ, ◌+◌, ◌*◌, ◌^◌, ◌≤◌, ◌<◌, min, List, [], ◌∷◌, length, get_or};
+ghost use Rattle.std.specs.Prelude.{◌≡◌, cond, ℕ, ◌+◌, ◌*◌, ◌^◌, ◌≤◌, ◌<◌, min, List, [], ◌∷◌, length, get_or, None};
 ghost use Rattle.reading.specs.Numbers.{verdict_number, mode_of_number};
 ghost use Rattle.reading.specs.Controls.{mode_or};
 ghost use Rattle.control.specs.Halving.{found_by_halving};
@@ -13,12 +13,13 @@ ghost use Rattle.transaction.specs.WalkRules.{walk_lists, fresh, Ready, Walked, 
 
 use crate::outcome;
 use crate::types::{AfterUnit, End, Phase, Transaction, WalkState};
-use apply::append::ControlCounts;
+use apply::append::{ControlArrays, ControlCounts};
 use apply::run;
 use control::fields;
+use control::state::Controls;
 use intervention::build;
 use intervention::decide::Ending;
-use reading::{CallSettings, OptionIntervention, Verdict, limits, widths};
+use reading::{CallSettings, Intervention, Verdict, limits, widths};
 use unit::close::UnitOutcome;
 use unit::visit::{State, VisitOutcome};
 use unit::{close, visit};
@@ -67,8 +68,7 @@ fn leave_unit(
     let end = outcome::turn_end(u, ruleset_mode, h);
     let state = State {
         next: u.next,
-        chained: at.state.chained,
-        first: at.state.first,
+        chain: at.state.chain,
     };
     let moved = WalkState {
         state,
@@ -89,10 +89,12 @@ fn leave_unit(
     AfterUnit::GoesOn(moved)
 }
 
-// Closes the unit whose last rule was visited: its id and data entries are written at the free ends of their lists, and its
-// controls apply; then its flow and its disruptive action say where the walk is left.
+// Closes the unit whose last rule was visited, and whose first entry in the journal stands at `first`: its id and data entries
+// are written at the free ends of their lists, and its controls apply; then its flow and its disruptive action say where the
+// walk is left.
 fn finish_unit(
     at: WalkState,
+    first: usize,
     call: CallSettings,
     rules: &[u64],
     actions: &[u64],
@@ -103,17 +105,14 @@ fn finish_unit(
     ids: &mut [u64],
     entries: &mut [u64],
     journal: &[u64],
-    starts: &mut [u64; limits::RANGES],
-    ends: &mut [u64; limits::RANGES],
-    phases: &mut [u64; limits::TARGETS],
-    positions: &mut [u64; limits::TARGETS],
+    arrays: &mut ControlArrays,
 ) -> AfterUnit
-    requires { Room at ids.old entries.old journal.now }
+    requires { Room at first ids.old entries.old journal.now }
     ensures { UnitClosed (given_of call rules.now actions.now (marker_list markers.now) text.now outcomes.now)
-        codes.now at ids.old entries.old journal.now starts.old ends.old phases.old positions.old
-        result ids.new entries.new starts.new ends.new phases.new positions.new }
+        codes.now at first ids.old entries.old journal.now arrays.old.starts arrays.old.ends arrays.old.phases arrays.old.positions
+        result ids.new entries.new arrays.new.starts arrays.new.ends arrays.new.phases arrays.new.positions }
 {
-    let from = widths::JOURNAL_ENTRY * at.state.first;
+    let from = widths::JOURNAL_ENTRY * first;
     let to = widths::JOURNAL_ENTRY * at.visits;
     let members = &journal[from..to];
     let listed = at.ids;
@@ -132,7 +131,7 @@ fn finish_unit(
     );
     let counts = at.counts;
     let h = run::unit_controls(
-        counts, members, rules, actions, text, codes, call.phase, starts, ends, phases, positions,
+        counts, members, rules, actions, text, codes, call.phase, arrays,
     );
     leave_unit(at, u, h, call, members, rules, actions)
 }
@@ -145,8 +144,7 @@ fn start(t: Transaction) -> WalkState
     WalkState {
         state: State {
             next: 0,
-            chained: false,
-            first: 0,
+            chain: None,
         },
         visits: 0,
         ids: t.ids,
@@ -162,17 +160,17 @@ fn start(t: Transaction) -> WalkState
 
 // An end without an intervention.
 fn end_at(ending: Ending, at: WalkState) -> End
-    ensures { result ≡ record { ending = ending; at = at; stop = OptionIntervention.None } }
+    ensures { result ≡ record { ending = ending; at = at; stop = None } }
 {
     End {
         ending,
         at,
-        stop: OptionIntervention::None,
+        stop: None,
     }
 }
 
-// The walk from the first rule on, where nothing stands against it. The controls' arrays are locals, lent where they are read
-// and where a closed unit changes them; the struct is made up again at the end.
+// The walk from the first rule on, where nothing stands against it. The controls' arrays are a local, lent where they are read
+// and where a closed unit changes them; the controls are made up again at the end.
 pub fn walk_rules(
     t: Transaction,
     call: CallSettings,
@@ -190,25 +188,35 @@ pub fn walk_rules(
     ensures { Walked (given_of call rules.now actions.now (marker_list markers.now) text.now outcomes.now) (fresh t)
         (walk_lists ids.old entries.old journal.old) result (walk_lists ids.new entries.new journal.new) }
 {
-    let mut starts = t.controls.starts;
-    let mut ends = t.controls.ends;
-    let mut phases = t.controls.phases;
-    let mut positions = t.controls.positions;
+    let Controls {
+        starts,
+        ends,
+        phases,
+        positions,
+        ..
+    } = t.controls;
+    let mut arrays = ControlArrays {
+        starts,
+        ends,
+        phases,
+        positions,
+    };
     let mut at = start(t);
     let n = rules.len() / widths::RULE;
+    // an index, and no `for`: a visit and a unit's flow say where the walk goes on
     while at.state.next < n {
-        let v = visit_next(at, rules, outcomes, &starts, &ends, journal);
+        let v = visit_next(at, rules, outcomes, &arrays.starts, &arrays.ends, journal);
         at.visits += 1;
         if visit::is_error(v) {
-            return outcome::ended(end_at(Ending::Errs, at), starts, ends, phases, positions);
+            return outcome::ended(end_at(Ending::Errs, at), arrays);
         }
-        let after = v.after;
-        at.state = after;
-        if !v.closes {
+        at.state = v.after;
+        let Some(first) = v.closes else {
             continue; // missed, removed, or a matched link, which waits
-        }
+        };
         let left = finish_unit(
             at,
+            first,
             call,
             rules,
             actions,
@@ -219,15 +227,12 @@ pub fn walk_rules(
             ids,
             entries,
             journal,
-            &mut starts,
-            &mut ends,
-            &mut phases,
-            &mut positions,
+            &mut arrays,
         );
         at = match left {
             AfterUnit::GoesOn(next) => next,
-            AfterUnit::Ends(end) => return outcome::ended(end, starts, ends, phases, positions),
+            AfterUnit::Ends(end) => return outcome::ended(end, arrays),
         };
     }
-    outcome::ended(end_at(Ending::GoesOn, at), starts, ends, phases, positions)
+    outcome::ended(end_at(Ending::GoesOn, at), arrays)
 }

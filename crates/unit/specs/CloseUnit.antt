@@ -1,7 +1,6 @@
 -- What closing a unit answers and writes.
-use Rattle.std.specs.Prelude.{ℕ, ◌+◌, ◌*◌, ◌/◌, min, ◌≡◌, List, [], ◌∷◌, ltb, eqb, length, take, get_or}
+use Rattle.std.specs.Prelude.{ℕ, ◌+◌, ◌*◌, ◌/◌, min, ◌≡◌, List, [], ◌∷◌, ltb, eqb, length, take, get_or, Option}
 use Rattle.std.proofs.lemmas.List.Edits.{sets}
-use Rattle.reading.specs.declared.OptionU64.{OptionU64}
 use Rattle.reading.specs.declared.Rule.{Rule}
 use Rattle.reading.specs.declared.DataEntry.{DataEntry}
 use Rattle.reading.specs.Lists.{keep, over}
@@ -13,7 +12,7 @@ use Rattle.reading.specs.Walk.{after_flow}
 use Rattle.unit.specs.declared.close.UnitOutcome.{UnitOutcome}
 
 -- a data entry of an id or none
-abbrev pub entry_with : OptionU64 → ℕ → ℕ → DataEntry
+abbrev pub entry_with : Option ℕ → ℕ → ℕ → DataEntry
 entry_with id phase m = record { present = present_number id; id = number_or_zero id; phase = phase; index = m }
 
 -- new entries, where a list of numbers has a place for an entry at w
@@ -26,7 +25,7 @@ pub record Put (new : List DataEntry) (w : ℕ) (before : List ℕ) (next : ℕ)
   pub words : after ≡ sets before (4 * w) (data_words (fitting before w new))
 
 -- the data entries of members, given the starter's id or none
-abbrev pub member_entry : ℕ → OptionU64 → List Rule → List ℕ → ℕ → List DataEntry
+abbrev pub member_entry : ℕ → Option ℕ → List Rule → List ℕ → ℕ → List DataEntry
 member_entry phase starter rules outcomes m =
     keep (eqb (get_or outcomes m 0) 2) (entry_with (own_or (record_id (get_or rules m no_rule)) starter) phase m ∷ [])
 

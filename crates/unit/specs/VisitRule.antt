@@ -1,5 +1,5 @@
 -- What a visit finds, in the structs of this crate.
-use Rattle.std.specs.Prelude.{ℕ, ◌+◌, Bool, true, false, cond, List, ltb, eqb, length, drop, get_or}
+use Rattle.std.specs.Prelude.{ℕ, ◌+◌, Bool, true, false, cond, List, ltb, eqb, length, drop, get_or, Option, None, Some, unwrap_or}
 use Rattle.reading.specs.declared.Verdict.{Verdict}
 use Rattle.reading.specs.declared.Rule.{Rule}
 use Rattle.reading.specs.Call.{no_rule}
@@ -8,31 +8,32 @@ use Rattle.unit.specs.declared.visit.State.{State}
 use Rattle.unit.specs.declared.visit.VisitOutcome.{VisitOutcome}
 
 -- a visit that closes no unit
-abbrev pub passed : Verdict → ℕ → Bool → ℕ → VisitOutcome
-passed verdict next chained first = record { verdict = verdict; closes = false; after = record { next = next; chained = chained; first = first } }
+abbrev pub passed : Verdict → ℕ → Option ℕ → VisitOutcome
+passed verdict next chain = record { verdict = verdict; closes = None; after = record { next = next; chain = chain } }
 
--- a rule that is found to be so, by whether it is a link; `past` is the index after it, `rest` that after its chain, and
--- `chained` says whether a chain was open. Clause for clause as `visit_by` of the reading's Walk.
-abbrev pub found_by : ℕ → ℕ → Bool → ℕ → Verdict → Bool → VisitOutcome
-found_by past rest chained first Verdict.Missed link = passed Verdict.Missed rest false first
-found_by past rest chained first Verdict.Matched true = passed Verdict.Matched past true first
-found_by past rest chained first Verdict.Matched false =
-    record { verdict = Verdict.Matched; closes = true; after = record { next = past; chained = false; first = first } }
-found_by past rest chained first Verdict.Removed true = passed Verdict.Removed rest false first
-found_by past rest chained first Verdict.Removed false = passed Verdict.Removed past chained first
-found_by past rest chained first Verdict.Error link = passed Verdict.Error past chained first
+-- a rule that is found to be so, by whether it is a link; `past` is the index after it, `rest` that after its chain, `chain`
+-- the place in the journal of the open chain's first entry, or none, and `first` that of the first entry of the chain with
+-- this rule. Clause for clause as `visit_by` of the reading's Walk.
+abbrev pub found_by : ℕ → ℕ → Option ℕ → ℕ → Verdict → Bool → VisitOutcome
+found_by past rest chain first Verdict.Missed link = passed Verdict.Missed rest None
+found_by past rest chain first Verdict.Matched true = passed Verdict.Matched past (Some first)
+found_by past rest chain first Verdict.Matched false =
+    record { verdict = Verdict.Matched; closes = Some first; after = record { next = past; chain = None } }
+found_by past rest chain first Verdict.Removed true = passed Verdict.Removed rest None
+found_by past rest chain first Verdict.Removed false = passed Verdict.Removed past chain
+found_by past rest chain first Verdict.Error link = passed Verdict.Error past chain
 
 -- the place in the journal of the open chain's first entry, else that of the entry to come
 abbrev pub entry_by : State → ℕ → ℕ
-entry_by at visits = cond at.chained at.first visits
+entry_by at visits = unwrap_or at.chain visits
 
 -- the visit of the rule that the walk stands at; where there is none, it stays there
 unfoldable pub found_at : List Rule → State → ℕ → Verdict → VisitOutcome
 found_at rules at visits found =
     cond (ltb at.next (length rules))
-    (found_by (at.next + 1) (at.next + chain_rest (drop at.next rules)) at.chained (entry_by at visits) found
+    (found_by (at.next + 1) (at.next + chain_rest (drop at.next rules)) at.chain (entry_by at visits) found
     (eqb (get_or rules at.next no_rule).link 1))
-    (passed found at.next at.chained (entry_by at visits))
+    (passed found at.next at.chain)
 
 -- a rule error
 abbrev pub is_error : Verdict → Bool

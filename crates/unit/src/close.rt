@@ -9,7 +9,7 @@ ghost use Rattle.unit.specs.CloseUnit.{entry_with, member_entry, Put, Listed, Wr
 
 use crate::{flow, members};
 use actions::execute;
-use reading::{CallSettings, DataEntry, DisruptiveOutcome, OptionU64, widths};
+use reading::{CallSettings, DataEntry, DisruptiveOutcome, widths};
 use ruleset::rules;
 
 // How many ids and data entries were written, the index that the walk goes on with, and the starter's last disruptive action.
@@ -22,11 +22,11 @@ pub struct UnitOutcome {
 }
 
 // Writes an id, if there is one and a place for it.
-fn put_id(id: OptionU64, ids: &mut [u64]) -> usize
+fn put_id(id: Option<u64>, ids: &mut [u64]) -> usize
     ensures value { result ≡ length (take (length ids.old) (list_of id)) }
     ensures ids_after { ids.new ≡ over ids.old (take (length ids.old) (list_of id)) }
 {
-    let OptionU64::Some(number) = id else {
+    let Some(number) = id else {
         return 0;
     };
     if ids.len() == 0 {
@@ -37,26 +37,23 @@ fn put_id(id: OptionU64, ids: &mut [u64]) -> usize
 }
 
 // A member's own id, else the starter's.
-fn own_or(own: OptionU64, starter: OptionU64) -> OptionU64
+fn own_or(own: Option<u64>, starter: Option<u64>) -> Option<u64>
     ensures { result ≡ own_or own starter }
 {
-    match own {
-        OptionU64::None => starter,
-        OptionU64::Some(id) => OptionU64::Some(id),
-    }
+    own.or(starter)
 }
 
-fn data_entry(id: OptionU64, phase: u64, index: u64) -> DataEntry
+fn data_entry(id: Option<u64>, phase: u64, index: u64) -> DataEntry
     ensures { result ≡ entry_with id phase index }
 {
     match id {
-        OptionU64::None => DataEntry {
+        None => DataEntry {
             present: 0,
             id: 0,
             phase,
             index,
         },
-        OptionU64::Some(number) => DataEntry {
+        Some(number) => DataEntry {
             present: 1,
             id: number,
             phase,
@@ -69,13 +66,7 @@ fn data_entry(id: OptionU64, phase: u64, index: u64) -> DataEntry
 fn put_entry(verdict: u64, outcome: u8, e: DataEntry, w: usize, entries: &mut [u64]) -> usize
     ensures { Put (keep (eqb verdict 1 && eqb outcome 2) (e ∷ [])) w entries.old result entries.new }
 {
-    if verdict != 1 {
-        return w;
-    }
-    if outcome != 2 {
-        return w;
-    }
-    if entries.len() / widths::DATA_ENTRY <= w {
+    if verdict != 1 || outcome != 2 || entries.len() / widths::DATA_ENTRY <= w {
         return w;
     }
     let at = widths::DATA_ENTRY * w;
@@ -89,7 +80,7 @@ fn put_entry(verdict: u64, outcome: u8, e: DataEntry, w: usize, entries: &mut [u
 // Writes the data entries of a unit's members, as many as fit, and answers how many.
 fn put_entries(
     phase: u64,
-    starter: OptionU64,
+    starter: Option<u64>,
     members: &[u64],
     rules: &[u64],
     outcomes: &[u8],
@@ -98,17 +89,13 @@ fn put_entries(
     ensures { Listed (gather (member_entry phase starter (rule_list rules.now) outcomes.now) (matched_in (journal_list members.now)))
         entries.old result entries.new }
 {
-    let n = members.len() / widths::JOURNAL_ENTRY;
+    let (journal, _) = members.as_chunks::<{ widths::JOURNAL_ENTRY }>();
     let mut w = 0;
-    let mut k = 0;
-    while k < n {
-        let index = members[widths::JOURNAL_ENTRY * k];
-        let verdict = members[widths::JOURNAL_ENTRY * k + 1];
+    for &[index, verdict] in journal {
         let m = index as usize;
         let own = rules::rule_id(rules::rule_at(rules, m));
         let e = data_entry(own_or(own, starter), phase, index);
         w = put_entry(verdict, rules::outcome_at(outcomes, m), e, w, entries);
-        k += 1;
     }
     w
 }
@@ -137,13 +124,11 @@ pub fn close_unit(
     // the positions of the control actions are not asked for here
     let mut none = [0u64; 1];
     let acts = execute::execute_actions(actions, starter, phase, &mut none[1..]);
-    let flow = acts.flow;
-    let disruptive = acts.disruptive;
-    let next = flow::after_flow(flow, past, rules, actions, markers, text);
+    let next = flow::after_flow(acts.flow, past, rules, actions, markers, text);
     UnitOutcome {
         ids: listed,
         entries: written,
         next,
-        disruptive,
+        disruptive: acts.disruptive,
     }
 }

@@ -7,36 +7,27 @@ ghost use Rattle.reading.specs.Call.{Given, rule_count};
 ghost use Rattle.reading.specs.Walk.{jump_from, after_flow};
 
 use actions::record;
-use reading::{FlowOutcome, OptionU64, widths};
+use reading::{FlowOutcome, widths};
 use ruleset::markers;
 
 // A skip of n indexes from `past` on, which goes no further than after the last rule.
 fn skip_to(past: usize, n: u64, rules: usize) -> usize
     ensures { result ≡ min (past + n) rules }
 {
-    if rules <= past {
-        return rules;
-    }
-    if (rules - past) as u64 <= n {
-        return rules;
-    }
-    past + n as usize
+    past.saturating_add(n as usize).min(rules)
 }
 
 // A marker is jumped to if its position is greater than `past`; else the rest is passed.
-fn jump_to(past: usize, found: OptionU64, rules: usize) -> usize
+fn jump_to(past: usize, found: Option<u64>, rules: usize) -> usize
     ensures { (g : Given) → g.reading ≡ rust → rule_count g ≡ rules → result ≡ min (jump_from g past found) rules }
 {
-    let OptionU64::Some(position) = found else {
+    let Some(position) = found else {
         return rules;
     };
     if position <= past as u64 {
         return rules;
     }
-    if rules as u64 <= position {
-        return rules;
-    }
-    position as usize
+    position.min(rules as u64) as usize
 }
 
 // The index that the walk goes on with, given the one after the closing rule.
@@ -54,18 +45,11 @@ pub fn after_flow(
 {
     let n = rules.len() / widths::RULE;
     match flow {
-        FlowOutcome::Continue => {
-            return skip_to(past, 0, n);
-        }
-        FlowOutcome::Chain => {
-            return skip_to(past, 0, n);
-        }
-        FlowOutcome::Skip(count) => {
-            return skip_to(past, count, n);
-        }
+        FlowOutcome::Continue | FlowOutcome::Chain => skip_to(past, 0, n),
+        FlowOutcome::Skip(count) => skip_to(past, count, n),
         FlowOutcome::SkipAfter(position) => {
             let name = record::action_at(actions, position as usize).text;
-            return jump_to(past, markers::marker(markers, text, name), n);
+            jump_to(past, markers::marker(markers, text, name), n)
         }
     }
 }

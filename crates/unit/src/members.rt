@@ -9,27 +9,16 @@ use reading::widths;
 pub fn starter_of(entries: &[u64]) -> u64
     ensures { result ≡ starter_of (matched_in (journal_list entries.now)) }
 {
-    let n = entries.len() / widths::JOURNAL_ENTRY;
-    let mut k = 0;
-    while k < n {
-        if entries[widths::JOURNAL_ENTRY * k + 1] == 1 { // the first that is matched
-            return entries[widths::JOURNAL_ENTRY * k];
-        }
-        k += 1;
-    }
-    0
+    let (entries, _) = entries.as_chunks::<{ widths::JOURNAL_ENTRY }>();
+    let first = entries.iter().find(|entry| entry[1] == 1);
+    first.map_or(0, |entry| entry[0])
 }
 
-// The last member, 0 where there is none.
+// The last member, 0 where there is none. Two functions: one would tell first and last apart by a flag.
 pub fn closer_of(entries: &[u64]) -> u64
     ensures { result ≡ closer_of (matched_in (journal_list entries.now)) }
 {
-    let mut k = entries.len() / widths::JOURNAL_ENTRY;
-    while 0 < k {
-        k -= 1;
-        if entries[widths::JOURNAL_ENTRY * k + 1] == 1 { // the last that is matched
-            return entries[widths::JOURNAL_ENTRY * k];
-        }
-    }
-    0
+    let (entries, _) = entries.as_chunks::<{ widths::JOURNAL_ENTRY }>();
+    let last = entries.iter().rev().find(|entry| entry[1] == 1);
+    last.map_or(0, |entry| entry[0])
 }

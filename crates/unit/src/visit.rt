@@ -1,6 +1,6 @@
 // One visit by value (engine/transaction.rs, engine/chain.rs): what is found of a rule, what becomes of the open chain, and
 // where the walk goes on.
-ghost use Rattle.std.specs.Prelude.{◌≡◌, Bool, false, cond, ℕ, min, get_or};
+ghost use Rattle.std.specs.Prelude.{◌≡◌, Option, false, cond, ℕ, min, get_or};
 ghost use Rattle.reading.specs.Call.{no_rule, record_id};
 ghost use Rattle.reading.specs.Numbers.{verdict_number};
 ghost use Rattle.reading.specs.Records.{rule_list};
@@ -12,21 +12,20 @@ use control::ranges;
 use reading::{Verdict, limits, widths};
 use ruleset::rules;
 
-// Where the walk stands. `next` is the index that it goes on with, so a pending skip is part of it. `first` is the place in
-// the journal of the open chain's first entry, if a chain is open.
+// Where the walk stands. `next` is the index that it goes on with, so a pending skip is part of it. `chain` is the place in
+// the journal of the open chain's first entry, or none.
 #[derive(Clone, Copy)]
 pub struct State {
     pub next: usize,
-    pub chained: bool,
-    pub first: usize,
+    pub chain: Option<usize>,
 }
 
-// A visit: what is found, whether it closes a unit, and where the walk stands then, before the unit's flow. Its `first` is
-// the place in the journal of the unit's first entry.
+// A visit: what is found, the place in the journal of the first entry of the unit that it closes, or none, and where the
+// walk stands then, before the unit's flow.
 #[derive(Clone, Copy)]
 pub struct VisitOutcome {
     pub verdict: Verdict,
-    pub closes: bool,
+    pub closes: Option<usize>,
     pub after: State,
 }
 
@@ -34,16 +33,12 @@ pub struct VisitOutcome {
 fn verdict(removed: bool, outcome: u8) -> Verdict
     ensures { result ≡ cond removed Verdict.Removed (verdict_by outcome) }
 {
-    if removed {
-        return Verdict::Removed;
+    match (removed, outcome) {
+        (true, _) => Verdict::Removed,
+        (false, 0) => Verdict::Missed,
+        (false, 3) => Verdict::Error,
+        (false, _) => Verdict::Matched,
     }
-    if outcome == 0 {
-        return Verdict::Missed;
-    }
-    if outcome == 3 {
-        return Verdict::Error;
-    }
-    Verdict::Matched
 }
 
 // What is found of the rule at an index, under the first `count` held ranges, which have the merged form.
@@ -67,51 +62,35 @@ pub fn verdict_at<'a>(
 pub fn verdict_number(verdict: Verdict) -> u64
     ensures { result ≡ verdict_number verdict }
 {
-    match verdict {
-        Verdict::Missed => 0,
-        Verdict::Matched => 1,
-        Verdict::Removed => 2,
-        Verdict::Error => 3,
-    }
+    verdict as u64 // 0 to 3
 }
 
 // The place in the journal of the open chain's first entry, else that of the entry to come.
 fn entry_of(at: State, visits: usize) -> usize
     ensures { result ≡ entry_by at visits }
 {
-    if at.chained {
-        return at.first;
-    }
-    visits
+    at.chain.unwrap_or(visits)
 }
 
 // A visit that closes no unit.
-fn passing(verdict: Verdict, next: usize, chained: bool, first: usize) -> VisitOutcome
-    ensures { result ≡ passed verdict next chained first }
+fn passing(verdict: Verdict, next: usize, chain: Option<usize>) -> VisitOutcome
+    ensures { result ≡ passed verdict next chain }
 {
     VisitOutcome {
         verdict,
-        closes: false,
-        after: State {
-            next,
-            chained,
-            first,
-        },
+        closes: None,
+        after: State { next, chain },
     }
 }
 
 // A matched rule that is not a link closes the unit.
 fn closing(next: usize, first: usize) -> VisitOutcome
-    ensures { (rest : ℕ) (chained : Bool) → result ≡ found_by next rest chained first Verdict.Matched false }
+    ensures { (rest : ℕ) (chain : Option ℕ) → result ≡ found_by next rest chain first Verdict.Matched false }
 {
     VisitOutcome {
         verdict: Verdict::Matched,
-        closes: true,
-        after: State {
-            next,
-            chained: false,
-            first,
-        },
+        closes: Some(first),
+        after: State { next, chain: None },
     }
 }
 
@@ -120,33 +99,21 @@ pub fn visit(rules: &[u64], at: State, visits: usize, found: Verdict) -> VisitOu
     ensures { result ≡ found_at (rule_list rules.now) at visits found }
 {
     let next = at.next;
-    let chained = at.chained;
+    let chain = at.chain;
     let first = entry_of(at, visits);
     if rules.len() / widths::RULE <= next {
-        return passing(found, next, chained, first);
+        return passing(found, next, chain);
     }
     let link = rules[widths::RULE * next + 2];
     let past = next + 1;
     match found {
         // a missed rule breaks an open chain and passes the rest of its own
-        Verdict::Missed => {
-            return passing(found, rules::after_chain(rules, next), false, first); // with its rest
-        }
-        Verdict::Matched => {
-            if link == 1 {
-                return passing(found, past, true, first);
-            }
-            return closing(past, first);
-        }
-        Verdict::Removed => {
-            if link == 1 {
-                return passing(found, rules::after_chain(rules, next), false, first);
-            }
-            return passing(found, past, chained, first); // the chain stays open
-        }
-        Verdict::Error => {
-            return passing(found, past, chained, first);
-        }
+        Verdict::Missed => passing(found, rules::after_chain(rules, next), None),
+        Verdict::Matched if link == 1 => passing(found, past, Some(first)),
+        Verdict::Matched => closing(past, first),
+        Verdict::Removed if link == 1 => passing(found, rules::after_chain(rules, next), None),
+        Verdict::Removed => passing(found, past, chain), // the chain stays open
+        Verdict::Error => passing(found, past, chain),
     }
 }
 
@@ -154,11 +121,5 @@ pub fn visit(rules: &[u64], at: State, visits: usize, found: Verdict) -> VisitOu
 pub fn is_error(v: VisitOutcome) -> bool
     ensures { result ≡ is_error v.verdict }
 {
-    let verdict = v.verdict;
-    match verdict {
-        Verdict::Missed => false,
-        Verdict::Matched => false,
-        Verdict::Removed => false,
-        Verdict::Error => true,
-    }
+    matches!(v.verdict, Verdict::Error)
 }

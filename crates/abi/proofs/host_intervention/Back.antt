@@ -1,9 +1,10 @@
 -- Metadata and an intervention that are written to a host's record are read back as they were, and each of their numbers is
 -- known. Assumes nothing.
+use Rattle.std.specs.Prelude.{Option, Some, None}
 use mathlib.Core.Path.{◌≡◌, refl}
 use mathlib.Core.Bool.{true}
+use Rattle.reading.specs.declared.Intervention.{Intervention}
 use Rattle.reading.specs.declared.RuleMetadata.{RuleMetadata}
-use Rattle.reading.specs.declared.OptionIntervention.{OptionIntervention}
 use Rattle.abi.proofs.values.Back.{flag-back, number-back, place-back, flag-known, number-known, place-known}
 use Rattle.abi.specs.HostIntervention.{metadata_of, host_metadata, metadata_known, intervention_of, host_stop, no_stop, host_intervention, intervention_known}
 
@@ -20,10 +21,10 @@ metadata-back m = λ i. record {
   accuracy = number-back m.accuracy i;
 }
 
-pub intervention-back : (o : OptionIntervention) → intervention_of (host_intervention o) ≡ o
+pub intervention-back : (o : Option Intervention) → intervention_of (host_intervention o) ≡ o
 unfolding intervention_of host_intervention host_stop no_stop
-intervention-back OptionIntervention.None = refl
-intervention-back (OptionIntervention.Some s) = λ i. OptionIntervention.Some (record {
+intervention-back None = refl
+intervention-back (Some s) = λ i. Some (record {
   status = s.status;
   url = place-back s.url i;
   log = place-back s.log i;
@@ -47,10 +48,10 @@ metadata-known m = rw (
   number-known m.accuracy,
 )
 
-pub intervention-known : (o : OptionIntervention) → intervention_known (host_intervention o) ≡ true
+pub intervention-known : (o : Option Intervention) → intervention_known (host_intervention o) ≡ true
 unfolding intervention_known host_intervention host_stop no_stop
-intervention-known OptionIntervention.None = refl
-intervention-known (OptionIntervention.Some s) = rw (
+intervention-known None = refl
+intervention-known (Some s) = rw (
   place-known s.url,
   place-known s.log,
   number-known s.closing,

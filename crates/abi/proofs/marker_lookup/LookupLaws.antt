@@ -1,4 +1,5 @@
 -- What the question answers, by what it is lent; and that unpacked markers answer for the records. Assumes nothing.
+use Rattle.std.specs.Prelude.{None}
 use Prim.Native.Nat.{ℕ, ◌*◌, ◌≤◌, ◌<◌}
 use mathlib.Core.Path.{◌≡◌, refl, sym, ap, ◌∙◌}
 use mathlib.Core.Bool.{Bool, true, false, cond, ◌||◌}
@@ -9,7 +10,6 @@ use lib.Dec.{ltb}
 use lib.ListN.{length, take}
 use lib.Seq.{take_all, length-take-le}
 use Rattle.reading.specs.declared.Marker.{Marker}
-use Rattle.reading.specs.declared.OptionU64.{OptionU64}
 use Rattle.reading.specs.Lists.{any}
 use Rattle.reading.specs.Directive.{is_high}
 use Rattle.reading.specs.Refusals.{bad_marker}
@@ -54,7 +54,7 @@ module _ (markers : List Marker) (rules : ℕ) (text : List ℕ) where
   -- THE WHOLE ANSWER
 
   pub refused : (name : List ℕ) (n : ℕ) → lookup_answer markers rules text ≡ n → (n ≡ 0 → ⊥)
-      → answered n OptionU64.None ≡ lookup markers rules text name
+      → answered n None ≡ lookup markers rules text name
   unfolding lookup
   refused name n e h = rw (e, ne_eqb n 0 h)
 
@@ -63,7 +63,7 @@ module _ (markers : List Marker) (rules : ℕ) (text : List ℕ) where
   unfolding lookup
   accepted name n e z = rw (e, eq-eqb n 0 z)
 
-  pub refused-markers : (name : List ℕ) → 256 < length markers → answered 2 OptionU64.None ≡ lookup markers rules text name
+  pub refused-markers : (name : List ℕ) → 256 < length markers → answered 2 None ≡ lookup markers rules text name
   refused-markers name h = refused name 2 (many-markers h) (λ z. omega arith)
 
 -- UNPACKED MARKERS

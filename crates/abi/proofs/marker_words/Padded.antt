@@ -1,15 +1,15 @@
 -- The numbers of the first markers of a list, padded with zeros: one marker more, and the end of the walk. Assumes nothing.
-use Prim.Native.Nat.{ℕ, zero, suc, ◌+◌, ◌*◌, ◌<◌, ◌≤◌}
+use Prim.Native.Nat.{ℕ, zero, suc, ◌+◌, ◌*◌, ◌<◌, ◌≤◌, min}
 use mathlib.Core.Path.{◌≡◌, refl, sym, ◌∙◌, ap}
 use mathlib.Core.List.{List, [], ◌∷◌, ◌++◌}
-use mathlib.Core.Bool.{Bool, true, false, cond}
+use mathlib.Core.Bool.{Bool, true, false}
 use lib.Dec.{ltb}
 use native.Mathlib.Omega.{arith}
 use borrow.Author.Tests.{ltb-true, ltb-false}
 use lib.ListN.{length, get_or, take, set, replicate, length-append, length-replicate}
 use lib.Seq.{take-append-le, take-suc, take-length, length-take-le}
 use Rattle.reading.specs.declared.Marker.{Marker}
-use Rattle.abi.specs.MarkerWords.{marker_words, words_of, copy_count}
+use Rattle.abi.specs.MarkerWords.{marker_words, words_of}
 
 abbrev pub no_marker : Marker
 no_marker = record { name = record { start = 0; len = 0 }; position = 0 }
@@ -81,19 +81,16 @@ words-front n k ms h = by n ms h ∙ sym (take-append-le (3 * n) (marker_words m
         let e : 3 * suc n ≡ suc (suc (suc (3 * n))) = omega arith in
         rw (e) (ap (λ (z : List ℕ). m.name.start ∷ m.name.len ∷ m.position ∷ z) (by n ms (omega arith)))
 
--- how many are copied
-pub few-copied : (n : ℕ) → (copy_count n ≤ n) × (copy_count n ≤ 257)
-few-copied n = by (ltb 257 n) refl
-  where
-    by : (b : Bool) → ltb 257 n ≡ b → (cond b 257 n ≤ n) × (cond b 257 n ≤ 257)
-    by true e = (omega (arith, ltb-true 257 n e), omega arith)
-    by false e = (omega arith, omega (arith, ltb-false 257 n e))
-
 -- after the last turn
-pub all_words : (ms : List Marker) → words_of (take (copy_count (length ms)) ms) ≡ words_of ms
+pub all_words : (ms : List Marker) → words_of (take (min (length ms) 257) ms) ≡ words_of ms
 unfolding words_of
 all_words ms = by (ltb 257 (length ms)) refl
   where
-    by : (b : Bool) → ltb 257 (length ms) ≡ b → words_of (take (cond b 257 (length ms)) ms) ≡ words_of ms
-    by true e = words-front 257 771 ms (omega (arith, ltb-true 257 (length ms) e))
-    by false e = ap words_of (take-length ms)
+    by : (b : Bool) → ltb 257 (length ms) ≡ b → words_of (take (min (length ms) 257) ms) ≡ words_of ms
+    by true e =
+        let few : 257 ≤ length ms = omega (arith, ltb-true 257 (length ms) e) in
+        let n : min (length ms) 257 ≡ 257 = omega arith in
+        rw n (words-front 257 771 ms few)
+    by false e =
+        let n : min (length ms) 257 ≡ length ms = omega (arith, ltb-false 257 (length ms) e) in
+        rw (n, take-length ms)

@@ -1,9 +1,9 @@
 -- The marks of the last actions, one to a slot.
+use Rattle.std.specs.Prelude.{Some}
 use Prim.Native.Nat.{ℕ, zero, suc, ◌+◌, ◌-◌, ◌<◌}
 use mathlib.Core.Path.{◌≡◌, refl, sym, ap, ◌∙◌}
 use mathlib.Core.Bool.{Bool, true, false, cond}
 use mathlib.Core.List.{List, [], ◌∷◌, ◌++◌}
-use mathlib.Core.Option.{some}
 use native.Mathlib.Omega.{arith}
 use native.Mathlib.Numerals.{add-one}
 use borrow.Author.Tests.{eqb-true, eqb-false}
@@ -11,7 +11,6 @@ use lib.Dec.{eqb}
 use lib.ListN.{length, get_or, set, replicate, length-set, get_or-replicate}
 use lib.Seq.{get_or-set_same, get_or-set_other}
 use Rattle.reading.specs.declared.Action.{Action}
-use Rattle.reading.specs.declared.OptionPlace.{OptionPlace}
 use Rattle.reading.specs.Actions.{Placed, kind_of, last_of, is_disruptive, is_flow}
 use Rattle.reading.specs.Actions.{disruptive_by, flow_by, last_disruptive, last_flow, number_in, place_in, last_place, metadata_of}
 use Rattle.reading.specs.Walk.{no_action}
@@ -40,10 +39,10 @@ marks-more actions done last i s e m =
     p = placed_at actions i
 
     found : (t : ℕ) (b : Bool) → eqb s t ≡ b
-        → last_of (in_slot t) (done ++ placed_at actions i ∷ []) ≡ cond b (some p) (last_of (in_slot t) done)
+        → last_of (in_slot t) (done ++ placed_at actions i ∷ []) ≡ cond b (Some p) (last_of (in_slot t) done)
     found t b f =
         last_more (in_slot t) done p
-        ∙ ap (λ (x : Bool). cond x (some p) (last_of (in_slot t) done)) (ap (λ (k : ℕ). eqb k t) (sym e) ∙ f)
+        ∙ ap (λ (x : Bool). cond x (Some p) (last_of (in_slot t) done)) (ap (λ (k : ℕ). eqb k t) (sym e) ∙ f)
 
     go : (t : ℕ) → t < 19 → (b : Bool) → eqb s t ≡ b
         → marked actions (get_or (set last s (i + 1)) t 0) ≡ last_of (in_slot t) (done ++ placed_at actions i ∷ [])
@@ -91,12 +90,8 @@ module _ (actions : List Action) (ps : List Placed) (last : List ℕ) (m : Marks
 
 -- a mark that is not 0, with the action that is read at its position
 pub marked-read : (actions : List Action) (mark : ℕ) (a : Action) → (mark ≡ 0 → ⊥) → a ≡ get_or actions (mark - 1) no_action
-    → marked actions mark ≡ some (record { position = mark - 1; action = a })
+    → marked actions mark ≡ Some (record { position = mark - 1; action = a })
 marked-read actions zero a h e = absurd (h refl)
 marked-read actions (suc position) a h e =
     let z : position ≡ suc position - 1 = omega arith in
-    ap (λ (k : ℕ). some (placed_at actions k)) z ∙ ap (λ (b : Action). some (record { position = suc position - 1; action = b })) (sym e)
-
-pub marked-place : (phase mark : ℕ) → (mark ≡ 0 → ⊥)
-    → marked_place phase mark ≡ OptionPlace.Some (record { phase = phase; position = mark - 1 })
-marked-place phase mark h = place_is [] phase mark ∙ ap (place_in phase) (marked-read [] mark no_action h refl)
+    ap (λ (k : ℕ). Some (placed_at actions k)) z ∙ ap (λ (b : Action). Some (record { position = suc position - 1; action = b })) (sym e)

@@ -1,13 +1,14 @@
 -- One action more: what a list of placed actions gives with another at its end.
+use Rattle.std.specs.Prelude.{Option, Some, None}
 use Prim.Native.Nat.{ℕ, zero, suc, ◌+◌, ◌-◌, ◌≤◌, ◌<◌, min}
 use mathlib.Core.Path.{◌≡◌, refl, sym, ap, fun_ext, ◌∙◌}
 use mathlib.Core.Bool.{Bool, cond}
 use mathlib.Core.List.{List, [], ◌∷◌, ◌++◌, append-nil, append_assoc}
-use mathlib.Core.Option.{Option, some, none}
 use native.Mathlib.Omega.{arith}
 use lib.Dec.{eqb}
 use lib.ListN.{length, take, drop, get_or, length-drop}
 use lib.Seq.{take-suc, get_or-drop, length-take-le}
+use Rattle.std.proofs.lemmas.List.{take_min}
 use Rattle.reading.specs.declared.Action.{Action}
 use Rattle.reading.specs.declared.Rule.{Rule}
 use Rattle.reading.specs.Lists.{keep}
@@ -49,13 +50,6 @@ up-to-more actions first i h k =
     let b : first + (i - first) ≡ i = omega arith in
     rw a (up-to-first actions first (i - first) (omega arith) ∙ ap (λ (p : ℕ). up_to actions first i ++ placed_at actions p ∷ []) b)
 
-take_min : (n : ℕ) (l : List Action) → take (min n (length l)) l ≡ take n l
-take_min zero l = let z : min zero (length l) ≡ zero = omega arith in rw z
-take_min (suc n) [] = let z : min (suc n) zero ≡ zero = omega arith in rw z
-take_min (suc n) (x ∷ l) =
-    let z : min (suc n) (suc (length l)) ≡ suc (min n (length l)) = omega arith in
-    rw z (ap (λ (r : List Action). x ∷ r) (take_min n l))
-
 -- a rule's actions are those up to the index after its last
 pub up-to-end : (actions : List Action) (r : Rule) (i : ℕ) → i ≡ r.first + min r.count (length actions - r.first)
     → up_to actions r.first i ≡ actions_of actions r
@@ -66,14 +60,14 @@ up-to-end actions r i e =
     ap (placed_from r.first) (ap (λ (n : ℕ). take n l) z ∙ take_min r.count l)
 
 last-from-more : (found : Option Placed) (test : ℕ → Bool) (ps : List Placed) (p : Placed)
-    → last_from found test (ps ++ p ∷ []) ≡ cond (test (kind_of p)) (some p) (last_from found test ps)
+    → last_from found test (ps ++ p ∷ []) ≡ cond (test (kind_of p)) (Some p) (last_from found test ps)
 last-from-more found test [] p = refl
-last-from-more found test (q ∷ ps) p = last-from-more (cond (test (kind_of q)) (some q) found) test ps p
+last-from-more found test (q ∷ ps) p = last-from-more (cond (test (kind_of q)) (Some q) found) test ps p
 
 pub last_more : (test : ℕ → Bool) (ps : List Placed) (p : Placed)
-    → last_of test (ps ++ p ∷ []) ≡ cond (test (kind_of p)) (some p) (last_of test ps)
+    → last_of test (ps ++ p ∷ []) ≡ cond (test (kind_of p)) (Some p) (last_of test ps)
 unfolding last_of
-last_more test ps p = last-from-more none test ps p
+last_more test ps p = last-from-more None test ps p
 
 -- two tests that agree find the same action
 pub last-same : (f g : ℕ → Bool) → ((kind : ℕ) → f kind ≡ g kind) → (ps : List Placed) → last_of f ps ≡ last_of g ps

@@ -4,8 +4,10 @@ use mathlib.Core.Path.{◌≡◌, refl, sym, ap, subst, ◌∙◌}
 use mathlib.Core.Bool.{Bool, true, false, cond}
 use mathlib.Core.List.{List, [], ◌∷◌, ◌++◌, append-nil, map-append}
 use native.Mathlib.Omega.{arith}
+use borrow.Author.Tests.{eq-eqb, ne_eqb}
 use lib.Dec.{eqb}
 use lib.ListN.{length, get_or, set, replicate, length-append, length-map}
+use lib.Seq.{set_out}
 use Rattle.reading.specs.declared.Action.{Action}
 use Rattle.reading.specs.Lists.{keep}
 use Rattle.reading.specs.declared.Rule.{Rule}
@@ -19,7 +21,7 @@ use Rattle.lists.proofs.RecordLaws.{length-actions, action-is}
 use Rattle.actions.proofs.execute.PlacedLaws.{up_to, up-to-none, up-to-more, up-to-end, controls-more}
 use Rattle.actions.proofs.execute.MarkLaws.{Marks, marks-none, marks-more, marks-disruptive, marks-flow, marks-metadata}
 use Rattle.actions.proofs.execute.NumberLaws.{disruptive-kind, disruptive-value, flow-kind, flow-value}
-use Rattle.actions.proofs.execute.ControlLaws.{fitting, length-fitting, fitting-none, fitting-more}
+use Rattle.actions.proofs.execute.ControlLaws.{fitting, fitting-none, fitting-more}
 
 -- after the actions `done`: the marks, the number of control actions, and the list of their positions, which was `found`
 pub record Sofar (actions : List Action) (found : List ℕ) (done : List Placed) (last controls : List ℕ) (n : ℕ) : Type 0 where
@@ -32,12 +34,8 @@ pub sofar-none : (actions : List Action) (found : List ℕ) (first : ℕ) → So
 sofar-none actions found first =
     rw (up-to-none actions first) (record { marks = marks-none actions; count = refl; positions = sym (fitting-none found) })
 
-pub sofar-length : {actions : List Action} {found : List ℕ} {done : List Placed} {last controls : List ℕ} {n : ℕ}
-    → Sofar actions found done last controls n → length controls ≡ length found
-sofar-length {found = found} {done = done} so = ap length so.positions ∙ length-fitting found (positions_of (controls_in done))
-
 -- one action more, by what the calls of a turn gave: s is its slot, controls' the list after it and m how many it adds
-pub sofar-more : (actions : List Action) (found : List ℕ) (done : List Placed) (last controls : List ℕ) (n i s : ℕ)
+sofar-more : (actions : List Action) (found : List ℕ) (done : List Placed) (last controls : List ℕ) (n i s : ℕ)
     (controls' : List ℕ) (m : ℕ)
     → s ≡ slot_of (kind_of (placed_at actions i))
     → controls' ≡ cond (eqb (kind_of (placed_at actions i)) 19) (set controls n i) controls
@@ -76,25 +74,40 @@ sofar-more actions found done last controls n i s controls' m slot put more so =
     written false = so.positions ∙ ap (λ (l : List Placed). fitting found (positions_of l)) (sym (append-nil before))
 
 -- a turn of the loop: the kind of the action at i was read from the lent numbers
-pub sofar-turn : (words found : List ℕ) (first i : ℕ) (last controls : List ℕ) (n s : ℕ) (controls' : List ℕ) (m : ℕ)
-    → first ≤ i
-    → i < length words / 6
-    → s ≡ slot_of (get_or words (6 * i) 0)
-    → controls' ≡ cond (eqb (get_or words (6 * i) 0) 19) (set controls n i) controls
-    → m ≡ cond (eqb (get_or words (6 * i) 0) 19) 1 0
-    → Sofar (action_list words) found (up_to (action_list words) first i) last controls n
-    → Sofar (action_list words) found (up_to (action_list words) first (i + 1)) (set last s (i + 1)) controls' (n + m)
-sofar-turn words found first i last controls n s controls' m low high slot put more so =
-    let actions = action_list words in
-    let kind : get_or words (6 * i) 0 ≡ kind_of (placed_at actions i) = ap (λ (a : Action). a.kind) (sym (action-is words i high)) in
-    subst
-    (λ (done : List Placed). Sofar actions found done (set last s (i + 1)) controls' (n + m))
-    (sym (up-to-more actions first i low (omega (arith, length-actions words))))
-    (sofar-more actions found (up_to actions first i) last controls n i s controls' m
-    (slot ∙ ap slot_of kind)
-    (put ∙ ap (λ (k : ℕ). cond (eqb k 19) (set controls n i) controls) kind)
-    (more ∙ ap (λ (k : ℕ). cond (eqb k 19) 1 0) kind)
-    so)
+module _ (words found : List ℕ) (first i : ℕ) (last controls : List ℕ) (n s : ℕ) (low : first ≤ i) (high : i < length words / 6)
+    (slot : s ≡ slot_of (get_or words (6 * i) 0))
+    (so : Sofar (action_list words) found (up_to (action_list words) first i) last controls n) where
+  sofar-turn : (controls' : List ℕ) (m : ℕ)
+      → controls' ≡ cond (eqb (get_or words (6 * i) 0) 19) (set controls n i) controls
+      → m ≡ cond (eqb (get_or words (6 * i) 0) 19) 1 0
+      → Sofar (action_list words) found (up_to (action_list words) first (i + 1)) (set last s (i + 1)) controls' (n + m)
+  sofar-turn controls' m put more =
+      let actions = action_list words in
+      let kind : get_or words (6 * i) 0 ≡ kind_of (placed_at actions i) = ap (λ (a : Action). a.kind) (sym (action-is words i high)) in
+      subst
+      (λ (done : List Placed). Sofar actions found done (set last s (i + 1)) controls' (n + m))
+      (sym (up-to-more actions first i low (omega (arith, length-actions words))))
+      (sofar-more actions found (up_to actions first i) last controls n i s controls' m
+      (slot ∙ ap slot_of kind)
+      (put ∙ ap (λ (k : ℕ). cond (eqb k 19) (set controls n i) controls) kind)
+      (more ∙ ap (λ (k : ℕ). cond (eqb k 19) 1 0) kind)
+      so)
+
+  -- a control action, with a place for its position or none
+  pub sofar-put : get_or words (6 * i) 0 ≡ 19
+      → Sofar (action_list words) found (up_to (action_list words) first (i + 1)) (set last s (i + 1)) (set controls n i) (n + 1)
+  sofar-put e = let t = eq-eqb (get_or words (6 * i) 0) 19 e in sofar-turn (set controls n i) 1 (rw t) (rw t)
+
+  pub sofar-full : get_or words (6 * i) 0 ≡ 19 → length controls ≤ n
+      → Sofar (action_list words) found (up_to (action_list words) first (i + 1)) (set last s (i + 1)) controls (n + 1)
+  sofar-full e h = rw (set_out controls n i h) at (sofar-put e)
+
+  pub sofar-other : (get_or words (6 * i) 0 ≡ 19 → ⊥)
+      → Sofar (action_list words) found (up_to (action_list words) first (i + 1)) (set last s (i + 1)) controls n
+  sofar-other ne =
+      let t = ne_eqb (get_or words (6 * i) 0) 19 ne in
+      let z : n + 0 ≡ n = omega arith in
+      rw z at (sofar-turn controls 0 (rw t) (rw t))
 
 -- after the rule's last action, with what is made of the marks
 pub sofar-end : (words found : List ℕ) (rule : Rule) (phase i : ℕ) (last controls : List ℕ) (r : RuleActions)

@@ -3,7 +3,7 @@ use Prim.Native.Nat.{ℕ, ◌+◌, ◌≤◌, ◌<◌}
 use mathlib.Core.Path.{◌≡◌, refl, sym, ap, ◌∙◌}
 use mathlib.Core.Logic.{◌⊎◌, inl, inr}
 use mathlib.Core.Bool.{Bool, true, false, cond}
-use mathlib.Core.List.{List, [], ◌∷◌, map}
+use mathlib.Core.List.{List, [], map}
 use native.Mathlib.Omega.{arith}
 use borrow.Author.Tests.{lt-ltb, le-ltb, le-leb, lt-leb}
 use lib.Dec.{ltb}
@@ -20,12 +20,9 @@ use Rattle.control.specs.ControlsStruct.{controls_of, RestCleared, Became}
 use Rattle.control.specs.Merging.{MergedAfter, cleared_from}
 use Rattle.lists.proofs.Tests.{or-false-is}
 use Rattle.control.proofs.state.HeldLaws as held
-use Rattle.ctl.specs.declared.range_count.RangeCount.{RangeCount}
-use Rattle.ctl.specs.CountRanges.{count_in}
 use Rattle.apply.specs.declared.append.ControlCounts.{ControlCounts}
 use Rattle.apply.specs.Append.{struct_of, Changed, target_if_room, ranges_if_room, TargetAdded, Fitting, RangesAdded}
 use Rattle.apply.proofs.append.ChangedLaws.{or-true, changed-same}
-use Rattle.apply.proofs.append.WrittenLaws.{none-counted, some-counted}
 
 -- a change of the struct that adds no range
 became-changed : {added : Bool} {a b : Controls} {x : reading.Controls} → Became false a b x → Changed false added a added b x
@@ -51,27 +48,6 @@ module _ (h : ControlCounts) (at : Place) (phases positions : List ℕ) where
   target-put lh lo l starts ends =
       let c = struct_of h starts ends phases positions in
       rw (held.targets-length c, lt-leb 64 h.targets l) (became-changed (held.target-put c at lh lo l))
-
--- how many ranges are added
-module _ (value : List ℕ) (used : ℕ) where
-  pub fits-none : count_in (removal_value value) ≡ RangeCount.Unsupported → Fitting value used 0
-  fits-none e = record { all = λ z. absurd (z refl); none = λ z. inl (none-counted value value refl e) }
-
-  module _ (n : ℕ) (e : count_in (removal_value value) ≡ RangeCount.Ranges n) where
-    pub fits_not : 256 < used + n → Fitting value used 0
-    fits_not l = record { all = λ z. absurd (z refl); none = λ z. inr (omega (arith, (some-counted value value refl n e).1)) }
-
-    pub fits_all : used + n ≤ 256 → Fitting value used n
-    fits_all l =
-        let k = some-counted value value refl n e in
-        record {
-          all = λ z. (sym (ap length k.0) ∙ k.1, k.0, l);
-          none = λ z. inl (no-entry (ranges_of (removal_value value)) (k.1 ∙ z));
-        }
-      where
-        no-entry : (l : List RuleIdRange) → length l ≡ 0 → l ≡ []
-        no-entry [] d = refl
-        no-entry (x ∷ xs) d = absurd (omega arith)
 
 -- the ranges of a value: none, and all written after those in use and merged in; v is the value, trimmed, and n what `fitting` gave. a and b
 -- are the arrays cleared after the ranges, unless that was done

@@ -1,5 +1,6 @@
 -- What `write_ranges` leaves in the part of an array after those in use, for the whole array; and a value's ranges by what
 -- `count_ranges` gives. Assumes nothing.
+use Rattle.std.specs.Prelude.{Some, None}
 use Prim.Native.Nat.{ℕ, ◌+◌, ◌-◌, ◌≤◌, min}
 use mathlib.Core.Path.{◌≡◌, refl, sym, ap, ◌∙◌}
 use mathlib.Core.Bool.{Bool, true, false, cond, ◌||◌}
@@ -13,7 +14,6 @@ use Rattle.reading.specs.Lists.{over}
 use Rattle.reading.specs.Text.{id_parts, any_bad, ranges_in}
 use Rattle.reading.specs.declared.UnsupportedReason.{UnsupportedReason}
 use Rattle.reading.specs.Directive.{unsupported, rule_remove_by_id, removal_value, ranges_of, start_of, end_of}
-use Rattle.ctl.specs.declared.range_count.RangeCount.{RangeCount}
 use Rattle.ctl.specs.CountRanges.{count_in}
 use Rattle.ctl.specs.WriteRanges.{all_fitting, Written}
 
@@ -37,19 +37,19 @@ handed-over l n new ys h e =
 
 -- a removal's ranges by what `count_ranges` gives; v is the value, trimmed
 module _ (v value : List ℕ) (is : v ≡ value) where
-  pub none-counted : count_in (removal_value v) ≡ RangeCount.Unsupported → ranges_of (removal_value value) ≡ []
+  pub none-counted : count_in (removal_value v) ≡ None → ranges_of (removal_value value) ≡ []
   none-counted e = rw (← is) (go (any_bad (id_parts v) || eqb (length (ranges_in (id_parts v))) 0) e)
     where
-      go : (b : Bool) → count_in (cond b (unsupported UnsupportedReason.IdList) (rule_remove_by_id (ranges_in (id_parts v)))) ≡ RangeCount.Unsupported
+      go : (b : Bool) → count_in (cond b (unsupported UnsupportedReason.IdList) (rule_remove_by_id (ranges_in (id_parts v)))) ≡ None
           → ranges_of (cond b (unsupported UnsupportedReason.IdList) (rule_remove_by_id (ranges_in (id_parts v)))) ≡ []
       go true d = refl
       go false d = absurd (let z : ◌≡◌ {A = ℕ} 0 1 = cc in omega arith)
 
-  pub some-counted : (n : ℕ) → count_in (removal_value v) ≡ RangeCount.Ranges n
+  pub some-counted : (n : ℕ) → count_in (removal_value v) ≡ Some n
       → (ranges_of (removal_value value) ≡ ranges_in (id_parts v)) × (length (ranges_of (removal_value value)) ≡ n)
   some-counted n e = rw (← is) (go (any_bad (id_parts v) || eqb (length (ranges_in (id_parts v))) 0) e)
     where
-      go : (b : Bool) → count_in (cond b (unsupported UnsupportedReason.IdList) (rule_remove_by_id (ranges_in (id_parts v)))) ≡ RangeCount.Ranges n
+      go : (b : Bool) → count_in (cond b (unsupported UnsupportedReason.IdList) (rule_remove_by_id (ranges_in (id_parts v)))) ≡ Some n
           → (ranges_of (cond b (unsupported UnsupportedReason.IdList) (rule_remove_by_id (ranges_in (id_parts v)))) ≡ ranges_in (id_parts v))
           × (length (ranges_of (cond b (unsupported UnsupportedReason.IdList) (rule_remove_by_id (ranges_in (id_parts v))))) ≡ n)
       go true d = absurd (let z : ◌≡◌ {A = ℕ} 0 1 = cc in omega arith)

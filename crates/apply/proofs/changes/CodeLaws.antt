@@ -1,24 +1,18 @@
 -- The codes of a rule, one after the other, and whether one of them is a change. Assumes nothing.
 use Prim.Native.Nat.{ℕ, zero, suc, ◌+◌, ◌-◌, ◌≤◌, ◌<◌, min}
-use mathlib.Core.Path.{◌≡◌, ap, ◌∙◌}
-use mathlib.Core.Bool.{Bool, true, false}
-use mathlib.Core.List.{List, [], ◌∷◌}
+use mathlib.Core.Path.{◌≡◌, refl, ap, ◌∙◌}
+use mathlib.Core.Bool.{Bool}
+use mathlib.Core.List.{List, ◌∷◌}
 use native.Mathlib.Omega.{arith}
 use native.Mathlib.Numerals.{add-one}
 use lib.Dec.{ltb}
 use lib.ListN.{length, take, drop, get_or, length-drop}
 use lib.Seq.{drop-cons}
-use borrow.Author.Tests.{lt-ltb, le-ltb}
+use Rattle.std.proofs.lemmas.List.{take_min}
+use Rattle.std.specs.List.{list_any, range_with_len}
 use Rattle.reading.specs.declared.Rule.{Rule}
 use Rattle.reading.specs.Lists.{any}
 use Rattle.apply.specs.UnitChanges.{rule_changes}
-
-take_min : (n : ℕ) (l : List ℕ) → take (min n (length l)) l ≡ take n l
-take_min zero l = let z : min zero (length l) ≡ zero = omega arith in rw z
-take_min (suc n) [] = let z : min (suc n) zero ≡ zero = omega arith in rw z
-take_min (suc n) (x ∷ l) =
-    let z : min (suc n) (suc (length l)) ≡ suc (min n (length l)) = omega arith in
-    rw z (ap (λ (r : List ℕ). x ∷ r) (take_min n l))
 
 -- the codes from i on, before end
 abbrev pub slice : ℕ → ℕ → List ℕ → List ℕ
@@ -50,17 +44,15 @@ pub changes-none : (codes : List ℕ) (r : Rule) (end : ℕ) → end ≡ r.first
 unfolding rule_changes
 changes-none codes r end e = ap (any is_change) (codes-are codes r end e)
 
-module _ (codes : List ℕ) (i end : ℕ) (t : Bool) (h : i < end) (k : end ≤ length codes)
-    (is : any is_change (slice i end codes) ≡ t) where
-  pub changes-found : 7 < get_or codes i 0 → true ≡ t
-  changes-found n =
-      let e : any is_change (get_or codes i 0 ∷ slice (i + 1) end codes) ≡ t = rw (codes-from codes i end h k) at is in
-      rw (lt-ltb 7 (get_or codes i 0) n) at e
+-- whether one of so many codes from an index on is a change
+codes-any : (codes : List ℕ) (m i : ℕ) → ((m ≡ 0 → ⊥) → i + m ≤ length codes)
+    → list_any (λ k. is_change (get_or codes k 0)) (range_with_len i m) ≡ any is_change (take m (drop i codes))
+codes-any codes zero i h = refl
+codes-any codes (suc m) i h =
+    let k : i + suc m ≤ length codes = h (λ z. omega arith) in
+    let more = codes-any codes m (suc i) (λ n. omega arith) in
+    rw (drop-cons codes i 0 (omega arith), add-one i, more)
 
-  pub changes-more : get_or codes i 0 ≤ 7 → any is_change (slice (i + 1) end codes) ≡ t
-  changes-more n =
-      let e : any is_change (get_or codes i 0 ∷ slice (i + 1) end codes) ≡ t = rw (codes-from codes i end h k) at is in
-      rw (le-ltb 7 (get_or codes i 0) n) at e
-
-pub changes-end : (codes : List ℕ) (i end : ℕ) (t : Bool) → end ≤ i → any is_change (slice i end codes) ≡ t → false ≡ t
-changes-end codes i end t h is = let z : end - i ≡ 0 = omega arith in rw z at is
+pub changes-any : (codes : List ℕ) (r : Rule) (end : ℕ) → end ≡ r.first + min r.count (length codes - r.first)
+    → list_any (λ k. is_change (get_or codes k 0)) (range_with_len r.first (end - r.first)) ≡ rule_changes codes r
+changes-any codes r end e = codes-any codes (end - r.first) r.first (λ n. omega arith) ∙ changes-none codes r end e

@@ -1,5 +1,5 @@
 -- The members of a unit, one after the other, and whether one of them has a change. Assumes nothing.
-use Prim.Native.Nat.{ℕ, ◌+◌, ◌/◌, ◌≤◌, ◌<◌, ◌*◌}
+use Prim.Native.Nat.{ℕ, zero, suc, ◌+◌, ◌/◌, ◌≤◌, ◌<◌, ◌*◌}
 use mathlib.Core.Path.{◌≡◌, refl, sym, ap, ◌∙◌}
 use mathlib.Core.Bool.{Bool, true, false, ◌&&◌, ◌||◌}
 use mathlib.Core.List.{List, [], ◌∷◌, ◌++◌}
@@ -7,6 +7,7 @@ use native.Mathlib.Omega.{arith}
 use native.Mathlib.Numerals.{add-one}
 use lib.Dec.{eqb}
 use lib.ListN.{length, drop, get_or, drop_of_length-le}
+use Rattle.std.specs.List.{list_any, range_with_len}
 use Rattle.reading.specs.declared.Rule.{Rule}
 use Rattle.reading.specs.Lists.{keep}
 use Rattle.reading.specs.Records.{journal_list, matched_in}
@@ -46,8 +47,14 @@ module _ (codes : List ℕ) (rules : List Rule) (words : List ℕ) (i : ℕ) (t 
       go true = refl
       go false = refl
 
-  pub unit-found : b ≡ true → true ≡ t
-  unit-found e = ap (λ (x : Bool). x || unit_changes codes rules (members_from words (i + 1))) (sym e) ∙ split
+-- whether an entry is of a member whose rule has a change
+abbrev pub entry_test : List ℕ → List Rule → List ℕ → ℕ → Bool
+entry_test codes rules words i = eqb (get_or words (2 * i + 1) 0) 1 && rule_changes codes (get_or rules (get_or words (2 * i) 0) no_rule)
 
-  pub unit-more : b ≡ false → unit_changes codes rules (members_from words (i + 1)) ≡ t
-  unit-more e = ap (λ (x : Bool). x || unit_changes codes rules (members_from words (i + 1))) (sym e) ∙ split
+-- whether one of so many entries from an index on is, up to the last
+pub members-any : (codes : List ℕ) (rules : List Rule) (words : List ℕ) (m i : ℕ) → i + m ≡ length words / 2
+    → list_any (entry_test codes rules words) (range_with_len i m) ≡ unit_changes codes rules (members_from words i)
+members-any codes rules words zero i e = rw (members-end words i (omega arith))
+members-any codes rules words (suc m) i e =
+    rw (members-any codes rules words m (i + 1) (omega arith))
+    (split codes rules words i (unit_changes codes rules (members_from words i)) (entry_test codes rules words i) (omega arith) refl refl)

@@ -6,15 +6,12 @@ use mathlib.Core.List.{List, [], ◌∷◌, ◌++◌, map}
 use native.Mathlib.Omega.{arith}
 use lib.ListN.{length, take, drop, get_or, length-drop}
 use lib.Seq.{take-suc, take-add}
+use Rattle.std.proofs.lemmas.List.{take_min}
 use Rattle.reading.specs.Lists.{total}
 
 module _ {A : Type 0} where
   pub clip-take : (n : ℕ) (l : List A) → take (min n (length l)) l ≡ take n l
-  clip-take zero l = let z : min zero (length l) ≡ zero = omega arith in rw z
-  clip-take (suc n) [] = let z : min (suc n) zero ≡ zero = omega arith in rw z
-  clip-take (suc n) (x ∷ l) =
-      let z : min (suc n) (suc (length l)) ≡ suc (min n (length l)) = omega arith in
-      rw z (ap (λ (r : List A). x ∷ r) (clip-take n l))
+  clip-take = take_min
 
   pub clip-drop : (n : ℕ) (l : List A) → drop (min n (length l)) l ≡ drop n l
   clip-drop zero l = let z : min zero (length l) ≡ zero = omega arith in rw z

@@ -5,9 +5,9 @@ use mathlib.Core.Path.{◌≡◌, refl, sym, ap, ◌∙◌}
 use mathlib.Core.Logic.{◌⊎◌, inl, inr}
 use mathlib.Core.List.{List, [], ◌∷◌, ◌++◌, map-append}
 use native.Mathlib.Omega.{arith}
-use borrow.Author.Tests.{eq-eqb, ne_eqb, le-leb, eqb-true, eqb-false}
+use borrow.Author.Tests.{eq-eqb, ne_eqb, eqb-true, eqb-false}
 use mathlib.Core.Bool.{Bool, true, false, not, ◌&&◌, ◌||◌}
-use lib.Dec.{leb, eqb}
+use lib.Dec.{eqb}
 use lib.ListN.{length, take, drop, get_or, set, length-map}
 use lib.Seq.{take-suc, take-take, length-take-le}
 use Rattle.reading.specs.declared.Action.{Action}
@@ -18,17 +18,11 @@ use Rattle.reading.specs.Text.{part_of}
 use Rattle.reading.specs.Directive.{directive_of, without_lists}
 use Rattle.reading.specs.Walk.{no_action}
 use Rattle.lists.proofs.Tests.{or-false-is, and-true, any_append}
-use Rattle.actions.proofs.execute.ControlLaws.{fitting, length-fitting, fitting-none, fitting-more}
+use Rattle.actions.proofs.execute.ControlLaws.{fitting, fitting-more}
 use Rattle.apply.specs.Codes.{code_of, read_in, code_at, codes_of, is_reason, same_texts, IsCodeOf}
 use Rattle.apply.proofs.codes.TotalLaws.{clip-take, take-map}
 
 module _ (text : List ℕ) (actions : List Action) (found : List ℕ) where
-  pub codes-none : found ≡ fitting found (codes_of text (take 0 actions))
-  codes-none = sym (fitting-none found)
-
-  pub codes-length : (cur : List ℕ) (i : ℕ) → cur ≡ fitting found (codes_of text (take i actions)) → length cur ≡ length found
-  codes-length cur i so = ap length so ∙ length-fitting found (codes_of text (take i actions))
-
   -- one code more
   pub codes-more : (cur : List ℕ) (i v : ℕ) → i < length actions → v ≡ code_at text (get_or actions i no_action)
       → cur ≡ fitting found (codes_of text (take i actions)) → set cur i v ≡ fitting found (codes_of text (take (i + 1) actions))
@@ -73,32 +67,15 @@ module _ (text : List ℕ) (a b : Action) (is : b ≡ a) where
         let z = eq-eqb b.kind 19 eq in
         rw (← is, z, ← ne, ← ve, ← de) re
 
--- whether a code is that of an unsupported directive
-pub reason-not : (code : ℕ) → code ≡ 0 → false ≡ is_reason code
-reason-not code e = rw e
-
-pub reason-by : (code : ℕ) → (code ≡ 0 → ⊥) → leb code 7 ≡ is_reason code
-reason-by code n = rw (le-leb 1 code (omega arith))
-
--- whether one is, with one code more, by the two arms of a test
-seen-or : (b r seen : Bool) → ((r ≡ true) × (b ≡ true)) ⊎ ((r ≡ false) × (b ≡ seen)) → b ≡ (seen || (r || false))
-seen-or b r seen (inl w) = rw (w.0, w.1) (sym (or-true seen))
-  where
-    or-true : (x : Bool) → (x || true) ≡ true
-    or-true true = refl
-    or-true false = refl
-seen-or b r seen (inr w) = rw (w.0, w.1) (sym (or-false-is seen))
-
-pub seen_more : (text : List ℕ) (actions : List Action) (seen : Bool) (i v : ℕ) (r b : Bool) → i < length actions → v ≡ code_at text (get_or actions i no_action)
-    → r ≡ is_reason v → ((r ≡ true) × (b ≡ true)) ⊎ ((r ≡ false) × (b ≡ seen))
-    → seen ≡ any is_reason (codes_of text (take i actions)) → b ≡ any is_reason (codes_of text (take (i + 1) actions))
-seen_more text actions seen i v r b h is re came so =
+-- whether one is, with one code more
+pub seen_more : (text : List ℕ) (actions : List Action) (seen : Bool) (i v : ℕ) (r : Bool) → i < length actions → v ≡ code_at text (get_or actions i no_action)
+    → r ≡ is_reason v → seen ≡ any is_reason (codes_of text (take i actions)) → (seen || r) ≡ any is_reason (codes_of text (take (i + 1) actions))
+seen_more text actions seen i v r h is re so =
     let new = codes_of text (take i actions) in
     let longer : codes_of text (take (i + 1) actions) ≡ new ++ v ∷ []
     = rw (add-one, take-suc actions i no_action, is) (map-append (code_at text) (take i actions) (get_or actions i no_action ∷ [])) in
-    seen-or b r seen came
-    ∙ (ap (λ (x : Bool). seen || (x || false)) re
-    ∙ (ap (λ (x : Bool). x || (is_reason v || false)) so ∙ sym (ap (any is_reason) longer ∙ any_append is_reason new (v ∷ []))))
+    ap (λ (x : Bool). seen || x) (re ∙ sym (or-false-is (is_reason v)))
+    ∙ (ap (λ (x : Bool). x || (is_reason v || false)) so ∙ sym (ap (any is_reason) longer ∙ any_append is_reason new (v ∷ [])))
 
 -- an action with the texts of another, whose code is known
 again-kind : (text : List ℕ) (b : Action) (t : Bool) → eqb b.kind 19 ≡ t → (code_at text b ≡ 0 → ⊥) → code_at text b ≡ code_of (read_in text b)

@@ -18,7 +18,7 @@ use Rattle.control.specs.ControlsStruct.{controls_of}
 use Rattle.lists.proofs.Tests.{or-false-is}
 use Rattle.apply.specs.Append.{Changed}
 use Rattle.apply.specs.UnitChanges.{rule_adds}
-use Rattle.apply.proofs.append.ChangedLaws.{or_assoc, changed-same, changed-as, changed_then}
+use Rattle.apply.proofs.append.ChangedLaws.{or_assoc, changed-as, changed_then}
 use Rattle.apply.proofs.changes.CodeLaws.{slice, codes-are, codes-from}
 use Rattle.apply.specs.UnitCodes.{Source, applied_code, applied_codes, rule_by_codes}
 use Rattle.apply.proofs.run.StepLaws.{Grown, coded-grown}
@@ -46,10 +46,6 @@ pub record Going (source : Source) (codes : List ℕ) (f : Bool) (c : Controls) 
   pub kept : Changed so_far f c f' r (controls_of r)
   pub rest : applied_codes source i (slice i end codes) (controls_of r) ≡ whole
   pub adds-rest : (so_far || any is_adding (slice i end codes)) ≡ adds
-
-pub going-none : (source : Source) (codes : List ℕ) (f : Bool) (c : Controls) (first end : ℕ)
-    → Going source codes f c f c first end (applied_codes source first (slice first end codes) (controls_of c)) (any is_adding (slice first end codes))
-going-none source codes f c first end = record { so_far = false; kept = changed-same f c; rest = refl; adds-rest = refl }
 
 module _ (source : Source) (codes : List ℕ) (f : Bool) (c : Controls) (f' : Bool) (r : Controls) (i end : ℕ) (whole : reading.Controls) (adds : Bool)
     (h : i < end) (k : end ≤ length codes) (going : Going source codes f c f' r i end whole adds) where

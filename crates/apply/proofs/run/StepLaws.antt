@@ -151,15 +151,16 @@ module _ (h : ControlCounts) (starts ends phases positions : List ℕ) (at : Pla
           ∙ (sym (coded_set at value code (controls_of c) h.settings l) ∙ ap (applied_code at value code)
           (sym (settings-same c)))
 
-  pub turned-target : (r : ControlCounts) (phases' positions' : List ℕ) → code ≡ 17 → TargetAdded h at phases positions r phases'
-      positions'
-      → Turned (ltb 17 code) h starts ends phases positions r starts ends phases' positions' (applied_code at value code (controls_of c))
+  pub turned-target : (r : ControlCounts) (starts' ends' phases' positions' : List ℕ) → code ≡ 17
+      → TargetAdded h at phases positions r phases' positions' → starts' ≡ starts → ends' ≡ ends
+      → Turned (ltb 17 code) h starts ends phases positions r starts' ends' phases' positions' (applied_code at value code (controls_of c))
   unfolding applied_code
-  turned-target r phases' positions' e a = rw (le-ltb 17 code (omega arith), lt-leb code 16 (omega arith), eq-eqb code 17 e) (a starts ends)
+  turned-target r starts' ends' phases' positions' e a ss es =
+      rw (le-ltb 17 code (omega arith), lt-leb code 16 (omega arith), eq-eqb code 17 e, ss, es) (a starts ends)
 
-  pub turned-ranges : (v : List ℕ) (r : ControlCounts) (starts' ends' : List ℕ) → 16 < code → (code ≡ 17 → ⊥) → v ≡ value
-      → RangesAdded h v starts ends r starts' ends'
-      → Turned (ltb 17 code) h starts ends phases positions r starts' ends' phases positions (applied_code at value code (controls_of c))
+  pub turned-ranges : (v : List ℕ) (r : ControlCounts) (starts' ends' phases' positions' : List ℕ) → 16 < code → (code ≡ 17 → ⊥) → v ≡ value
+      → RangesAdded h v starts ends r starts' ends' → phases' ≡ phases → positions' ≡ positions
+      → Turned (ltb 17 code) h starts ends phases positions r starts' ends' phases' positions' (applied_code at value code (controls_of c))
   unfolding applied_code
-  turned-ranges v r starts' ends' l n e a =
-      rw (lt-ltb 17 code (omega (arith, n)), lt-leb code 16 l, ne_eqb code 17 n, ← e) (a phases positions)
+  turned-ranges v r starts' ends' phases' positions' l n e a ps os =
+      rw (lt-ltb 17 code (omega (arith, n)), lt-leb code 16 l, ne_eqb code 17 n, ← e, ps, os) (a phases positions)

@@ -4,7 +4,6 @@ use mathlib.Core.Path.{◌≡◌, refl, sym, ap, ◌∙◌}
 use mathlib.Core.Bool.{Bool, true, false, ◌||◌}
 use mathlib.Core.List.{List, [], ◌∷◌, ◌++◌}
 use native.Mathlib.Omega.{arith}
-use borrow.Author.Tests.{eq-eqb, ne_eqb}
 use lib.Dec.{eqb}
 use lib.ListN.{length, get_or}
 use Rattle.reading.specs.declared.Rule.{Rule}
@@ -17,7 +16,7 @@ use Rattle.control.specs.ControlsStruct.{controls_of}
 use Rattle.lists.proofs.Tests.{or-false-is, any_append}
 use Rattle.apply.specs.Append.{Changed}
 use Rattle.apply.specs.UnitChanges.{rule_adds, unit_adds}
-use Rattle.apply.proofs.append.ChangedLaws.{or_assoc, changed-same, changed-as, changed_then}
+use Rattle.apply.proofs.append.ChangedLaws.{or_assoc, changed-as, changed_then}
 use Rattle.apply.proofs.changes.MemberLaws.{members_from, members-from, members-end}
 use Rattle.apply.specs.UnitCodes.{Source, rule_by_codes, unit_by_codes}
 use Rattle.apply.proofs.run.StepLaws.{Grown}
@@ -39,23 +38,6 @@ pub record Across (source : Source) (codes : List ℕ) (rules : List Rule) (word
   pub rest : unit_by_codes source codes rules (members_from words i) (controls_of r)
       ≡ unit_by_codes source codes rules (matched_in (journal_list words)) (controls_of c)
   pub adds-rest : (so_far || unit_adds codes rules (members_from words i)) ≡ unit_adds codes rules (matched_in (journal_list words))
-
-pub across-none : (source : Source) (codes : List ℕ) (rules : List Rule) (words : List ℕ) (f : Bool) (c : Controls) → Across source codes
-    rules words f c f c 0
-across-none source codes rules words f c = record { so_far = false; kept = changed-same f c; rest = refl; adds-rest = refl }
-
--- a journal entry: its rule where that is a member
-module _ (source : Source) (codes : List ℕ) (rules : List Rule) (index verdict : ℕ) (f : Bool) (c : Controls) where
-  abbrev one : List ℕ
-  one = keep (eqb verdict 1) (index ∷ [])
-
-  pub entry-member : (f' : Bool) (r : Controls) (rule : Rule) → verdict ≡ 1 → rule ≡ get_or rules index no_rule
-      → Changed (rule_adds codes rule) f c f' r (rule_by_codes source codes rule (controls_of c))
-      → Changed (unit_adds codes rules one) f c f' r (unit_by_codes source codes rules one (controls_of c))
-  entry-member f' r rule e is k = rw (eq-eqb verdict 1 e, or-false-is (rule_adds codes (get_or rules index no_rule)), ← is) k
-
-  pub entry-none : (verdict ≡ 1 → ⊥) → Changed (unit_adds codes rules one) f c f c (unit_by_codes source codes rules one (controls_of c))
-  entry-none e = rw (ne_eqb verdict 1 e) (changed-same f c)
 
 module _ (source : Source) (codes : List ℕ) (rules : List Rule) (words : List ℕ) (f : Bool) (c : Controls) (f' : Bool) (r : Controls) (i : ℕ)
     (across : Across source codes rules words f c f' r i) where

@@ -1,4 +1,5 @@
 -- Laws of the list that two arrays and a count stand for. Assumes nothing.
+use Rattle.std.specs.Prelude.{Some, None}
 use Prim.Native.Nat.{ℕ, zero, suc, ◌≤◌, ◌<◌}
 use mathlib.Core.Path.{◌≡◌, refl, sym, ap, ◌∙◌}
 use mathlib.Core.Bool.{Bool, true, false}
@@ -10,7 +11,6 @@ use lib.ListN.{length, get_or, set, length-append, length-map, get_or-append}
 use lib.Seq.{get_or-set_other, get_or_at}
 use Rattle.reading.specs.declared.RuleIdRange.{RuleIdRange}
 use Rattle.reading.specs.declared.Place.{Place}
-use Rattle.reading.specs.declared.OptionPlace.{OptionPlace}
 use Rattle.reading.specs.Controls.{pair_list, target_list, place_at}
 
 -- an entry of the two lists
@@ -59,7 +59,7 @@ module _ {A : Type 0} (make : ℕ → ℕ → A) (read : A → ℕ) (xs ys colum
           get_or_at (map read (pair_list make n xs ys)) (read (make (get_or xs n 0) (get_or ys n 0))) [] 0 k s
           ∙ (reads n ∙ ap (λ (i : ℕ). get_or column i 0) (sym q))
 
-place-past : (l : List Place) (k : ℕ) → length l ≤ k → place_at l k ≡ OptionPlace.None
+place-past : (l : List Place) (k : ℕ) → length l ≤ k → place_at l k ≡ None
 place-past [] k h = refl
 place-past (p ∷ ps) zero h = absurd (omega arith)
 place-past (p ∷ ps) (suc k) h = place-past ps k (omega arith)
@@ -69,7 +69,7 @@ place-before [] m k h = absurd (omega arith)
 place-before (p ∷ ps) m zero h = refl
 place-before (p ∷ ps) m (suc k) h = place-before ps m k (omega arith)
 
-place-last : (l : List Place) (p : Place) (k : ℕ) → k ≡ length l → place_at (l ++ (p ∷ [])) k ≡ OptionPlace.Some p
+place-last : (l : List Place) (p : Place) (k : ℕ) → k ≡ length l → place_at (l ++ (p ∷ [])) k ≡ Some p
 place-last [] p zero e = refl
 place-last [] p (suc k) e = absurd (omega arith)
 place-last (q ∷ ps) p zero e = absurd (omega arith)
@@ -82,19 +82,19 @@ module _ (phases positions : List ℕ) where
   targets-length : (n : ℕ) → length (target_list n phases positions) ≡ n
   targets-length = length_pairs place_of phases positions
 
-  pub no_target : (n k : ℕ) → n ≤ k → place_at (target_list n phases positions) k ≡ OptionPlace.None
+  pub no_target : (n k : ℕ) → n ≤ k → place_at (target_list n phases positions) k ≡ None
   no_target n k h = place-past (target_list n phases positions) k (omega (arith, targets-length n))
 
-  pub target_at : (n k : ℕ) → k < n → place_at (target_list n phases positions) k ≡ OptionPlace.Some (target k)
+  pub target_at : (n k : ℕ) → k < n → place_at (target_list n phases positions) k ≡ Some (target k)
   target_at zero k h = absurd (omega arith)
   target_at (suc n) k h = go (ltb k n) refl (target_at n k)
     where
-      go : (t : Bool) → ltb k n ≡ t → (k < n → place_at (target_list n phases positions) k ≡ OptionPlace.Some (target k))
-          → place_at (target_list n phases positions ++ (target n ∷ [])) k ≡ OptionPlace.Some (target k)
+      go : (t : Bool) → ltb k n ≡ t → (k < n → place_at (target_list n phases positions) k ≡ Some (target k))
+          → place_at (target_list n phases positions ++ (target n ∷ [])) k ≡ Some (target k)
       go true d ih =
           place-before (target_list n phases positions) (target n ∷ []) k (omega (arith, targets-length n, ltb-true k n d))
           ∙ ih (ltb-true k n d)
       go false d ih =
           let q : k ≡ n = omega (arith, ltb-false k n d) in
           place-last (target_list n phases positions) (target n) k (omega (arith, targets-length n))
-          ∙ ap (λ (i : ℕ). OptionPlace.Some (target i)) (omega (arith, q))
+          ∙ ap (λ (i : ℕ). Some (target i)) (omega (arith, q))

@@ -1,20 +1,23 @@
 -- A question to controls that refusal 3 meets, and to others. Assumes nothing.
-use mathlib.Core.Path.{◌≡◌, sym, ◌∙◌}
-use mathlib.Core.Bool.{Bool, true, false}
-use Rattle.reading.specs.Controls.{bad_controls, asked}
-use Rattle.control.specs.declared.state.Controls.{Controls}
+use Rattle.std.specs.Prelude.{Ok}
+use Prim.Native.Nat.{ℕ}
+use mathlib.Core.Path.{◌≡◌, refl}
+use mathlib.Core.Bool.{Bool, true, false, cond}
+use native.Mathlib.Omega.{arith}
+use Rattle.reading.specs.Controls.{Controls, bad_controls, asked}
+use Rattle.control.specs.declared.state.Controls.{Controls as Struct}
 use Rattle.control.specs.ControlsStruct.{controls_of}
-use Rattle.control.proofs.state.HeldLaws.{bad_parts, bad}
-use Rattle.control.specs.QueryAnswers.{Answered}
+use Rattle.control.specs.QueryAnswers.{asked_by}
+use Rattle.control.proofs.state.HeldLaws.{bad, NotBad, not-bad}
 
--- t is what `is_bad` gave
-module _ (c : Controls) (t : Bool) (is : t ≡ bad_parts c.ranges c.targets c.starts c.ends) where
-  pub refuses : {A : Type 0} (value other : A) → t ≡ true → Answered 3 other (asked (controls_of c) value other)
-  refuses value other e =
-      let b : bad_controls (controls_of c) ≡ true = bad c ∙ (sym is ∙ e) in
-      record { answer-is = rw b; value-is = rw b }
+passes : (b : Bool) → ◌≡◌ {A = ℕ} 0 (cond b 3 0) → b ≡ false
+passes true h = absurd (let z : ◌≡◌ {A = ℕ} 0 3 = h in omega arith)
+passes false h = refl
 
-  pub gives : {A : Type 0} (value other given : A) → t ≡ false → given ≡ value → Answered 0 given (asked (controls_of c) value other)
-  gives value other given e v =
-      let b : bad_controls (controls_of c) ≡ false = bad c ∙ (sym is ∙ e) in
-      record { answer-is = rw b; value-is = rw b v }
+module _ (c : Controls) {A : Type 0} (value other : A) where
+  pub gives : (given : A) → ◌≡◌ {A = ℕ} 0 (cond (bad_controls c) 3 0) → given ≡ value → asked_by other (Ok given) ≡ asked c value other
+  gives given e v = rw (passes (bad_controls c) e) (λ i. record { answer = 0; value = v i })
+
+-- what is known of controls that it does not meet
+pub not-refused : (s : Struct) → ◌≡◌ {A = ℕ} 0 (cond (bad_controls (controls_of s)) 3 0) → NotBad s.ranges s.targets s.starts s.ends
+not-refused s e = not-bad s.ranges s.targets s.starts s.ends _ (bad s) (passes (bad_controls (controls_of s)) e)

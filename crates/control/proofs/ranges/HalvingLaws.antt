@@ -1,4 +1,5 @@
 -- Where an id lies among the ends of ranges, by halving. Assumes nothing.
+use Rattle.std.specs.Prelude.{Option, Some, None}
 use Prim.Native.Nat.{ℕ, zero, suc, ◌+◌, ◌-◌, ◌^◌, ◌≤◌, ◌<◌}
 use mathlib.Core.Path.{◌≡◌, refl, sym, ap, ◌∙◌}
 use mathlib.Core.Bool.{Bool, true, false, cond, ◌&&◌}
@@ -7,7 +8,6 @@ use native.Mathlib.Omega.{arith}
 use lib.Dec.{ltb, leb}
 use lib.ListN.{get_or}
 use borrow.Author.Tests.{ltb-true, ltb-false, lt-ltb, le-ltb, leb-true, le-leb, lt-leb}
-use Rattle.reading.specs.declared.OptionU64.{OptionU64}
 use Rattle.reading.specs.Lists.{any}
 use Rattle.reading.specs.Controls.{in_range, is_removed, range_list}
 use Rattle.theorems.specs.MergedRanges.{Merged, in-low, in-high}
@@ -72,7 +72,7 @@ module _ (ends : List ℕ) (n id low high : ℕ) where
   search-done h s = sym (s.same ∙ halved-done s.left ends id low high h)
 
 -- the range found, or none
-pub found_none : (n : ℕ) (starts ends : List ℕ) (o : OptionU64) → o ≡ OptionU64.None → false ≡ found_by_halving n starts ends o
+pub found_none : (n : ℕ) (starts ends : List ℕ) (o : Option ℕ) → o ≡ None → false ≡ found_by_halving n starts ends o
 unfolding found_by_halving
 found_none n starts ends o e = rw e
 
@@ -80,26 +80,26 @@ and-false : (b : Bool) → (b && false) ≡ false
 and-false true = refl
 and-false false = refl
 
-pub found-empty : (n : ℕ) (starts ends : List ℕ) (o : OptionU64) → n ≡ 0 → false ≡ found_by_halving n starts ends o
+pub found-empty : (n : ℕ) (starts ends : List ℕ) (o : Option ℕ) → n ≡ 0 → false ≡ found_by_halving n starts ends o
 unfolding found_by_halving
-found-empty n starts ends OptionU64.None e = refl
-found-empty n starts ends (OptionU64.Some id) e =
+found-empty n starts ends None e = refl
+found-empty n starts ends (Some id) e =
     rw (le-ltb (halved 9 ends id 0 n) n (omega arith)) (sym (and-false (leb (get_or starts 0 0) id)))
 
 -- an id below the first start
-pub found_below : (n : ℕ) (starts ends : List ℕ) (o : OptionU64) (id : ℕ) → o ≡ OptionU64.Some id → id < get_or starts 0 0
+pub found_below : (n : ℕ) (starts ends : List ℕ) (o : Option ℕ) (id : ℕ) → o ≡ Some id → id < get_or starts 0 0
     → false ≡ found_by_halving n starts ends o
 unfolding found_by_halving
 found_below n starts ends o id is h = rw (is, lt-leb (get_or starts 0 0) id h)
 
 -- `at` is what `first_end` gave
-module _ (n : ℕ) (starts ends : List ℕ) (o : OptionU64) (id : ℕ) (is : o ≡ OptionU64.Some id) (from : get_or starts 0 0 ≤ id)
+module _ (n : ℕ) (starts ends : List ℕ) (o : Option ℕ) (id : ℕ) (is : o ≡ Some id) (from : get_or starts 0 0 ≤ id)
     (at : ℕ) (at-is : at ≡ halved 9 ends id 0 n) where
   pub found_at : at < n → leb (get_or starts at 0) id ≡ found_by_halving n starts ends o
   unfolding found_by_halving
   found_at h = rw (is, le-leb (get_or starts 0 0) id from, ← at-is, lt-ltb at n h)
 
-  pub found-not : n ≤ at → false ≡ found_by_halving n starts ends o
+  pub found-not : n ≤ at → ltb at n ≡ found_by_halving n starts ends o
   unfolding found_by_halving
   found-not h = rw (is, le-leb (get_or starts 0 0) id from, ← at-is, le-ltb at n h)
 
@@ -213,11 +213,11 @@ module _ (starts ends : List ℕ) (n id : ℕ) (f : Merged (range_list n starts 
       go false z = let q : at ≡ 0 = omega (arith, ltb-false 0 at z) in rw q at held
 
 -- HALVING FINDS WHAT IS REMOVED
-pub halving-finds : (n : ℕ) (starts ends : List ℕ) (o : OptionU64) → n ≤ 256 → Merged (range_list n starts ends)
+pub halving-finds : (n : ℕ) (starts ends : List ℕ) (o : Option ℕ) → n ≤ 256 → Merged (range_list n starts ends)
     → found_by_halving n starts ends o ≡ is_removed (range_list n starts ends) o
 unfolding is_removed found_by_halving
-halving-finds n starts ends OptionU64.None h f = refl
-halving-finds n starts ends (OptionU64.Some id) h f =
+halving-finds n starts ends None h f = refl
+halving-finds n starts ends (Some id) h f =
     let whole : Bracket ends n id 0 n
     = record { in_order = omega arith; in_use = omega arith; below = λ k p. absurd (omega arith); above = λ k p q. absurd (omega arith) } in
     let at : ℕ = halved 9 ends id 0 n in

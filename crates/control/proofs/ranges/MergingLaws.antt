@@ -2,12 +2,13 @@
 use Prim.Native.Nat.{ℕ, zero, suc, ◌+◌, ◌-◌, ◌≤◌, ◌<◌, min, max}
 use mathlib.Core.Path.{◌≡◌, refl, sym, ap, ◌∙◌}
 use mathlib.Core.Bool.{true, false}
-use mathlib.Core.List.{List, [], ◌∷◌, ◌++◌, append_assoc, append-nil}
+use mathlib.Core.List.{List, [], ◌∷◌, ◌++◌, append_assoc}
 use native.Mathlib.Omega.{arith}
 use native.Mathlib.Numerals.{add-one}
 use lib.Dec.{ltb}
-use lib.ListN.{length, take, drop, get_or, set, replicate, length-set, length-append, length-replicate, length-drop, take-append-drop}
-use lib.Seq.{take-suc, take-suc-set, take_at, drop_at, drop-drop, drop-set-lt, get_or-drop, get_or-set_same, length-take-le}
+use lib.ListN.{length, take, drop, get_or, set, replicate, length-set, length-append, length-replicate, length-drop}
+use lib.Seq.{take_at, drop_at, drop-drop, drop-set-lt, get_or-drop, get_or-set_same, length-take-le}
+use borrow.Rule.Slice.PartMut.{put_mid, mid_of}
 use Rattle.reading.specs.declared.RuleIdRange.{RuleIdRange}
 use Rattle.reading.specs.Ranges.{is_apart, joined, add_range, add_ranges}
 use Rattle.reading.specs.Controls.{range_list}
@@ -153,38 +154,13 @@ module _ (count : ℕ) (r : RuleIdRange) (starts ends : List ℕ) where
             in-ends = f.in-ends;
           }
 
--- CLEARING: the first `from` places as found, then 0 up to i, and as found from there on
-pub record Cleared (old cur : List ℕ) (from i : ℕ) : Type 0 where
-  pub ahead : from ≤ i
-  pub in_list : Rest old cur i
-  pub written : take i cur ≡ take from old ++ replicate (i - from) 0
-
-pub cleared-start : (old : List ℕ) (from : ℕ) → Cleared old old from from
-cleared-start old from =
-    let z : from - from ≡ 0 = omega arith in
-    record { ahead = omega arith; in_list = record { kept = refl; rest = refl }; written = rw z (sym (append-nil (take from old))) }
-
-pub replicate-one : (n v : ℕ) → replicate n v ++ (v ∷ []) ≡ replicate (suc n) v
-replicate-one zero v = refl
-replicate-one (suc n) v = ap (λ (l : List ℕ). v ∷ l) (replicate-one n v)
-
-pub cleared_more : (old cur : List ℕ) (from i : ℕ) → Cleared old cur from i → i < length cur → Cleared old (set cur i 0) from (i + 1)
-cleared_more old cur from i c h =
-    let z : suc i - from ≡ suc (i - from) = omega (arith, c.ahead) in
-    record {
-      ahead = omega (arith, c.ahead);
-      in_list = rest_more old cur i 0 c.in_list;
-      written =
-          rw (add-one i, take-suc-set cur i 0 h, c.written, z, append_assoc)
-          (ap (λ (l : List ℕ). take from old ++ l) (replicate-one (i - from) 0));
-    }
-
-pub cleared-done : (old cur : List ℕ) (from to i : ℕ) → Cleared old cur from i → i ≡ to
-    → cur ≡ take from old ++ (replicate (to - from) 0 ++ drop to old)
-cleared-done old cur from to i c e =
-    rw (← e)
-    (sym (take-append-drop i cur)
-    ∙ (rw (c.written, c.in_list.rest) (append_assoc (take from old) (replicate (i - from) 0) (drop i old))))
+-- CLEARING: zeros written over a part
+pub cleared-by : (from to : ℕ) (old zeros : List ℕ) → from ≤ to → to ≤ length old → zeros ≡ replicate (length (mid_of from (to - from) old)) 0
+    → put_mid from (to - from) old zeros ≡ take from old ++ (replicate (to - from) 0 ++ drop to old)
+cleared-by from to old zeros h l e =
+    let z : from + (to - from) ≡ to = omega arith in
+    let n : length (mid_of from (to - from) old) ≡ to - from = length-take-le (to - from) (drop from old) (omega (arith, length-drop from old)) in
+    rw (e, n, drop-drop, z)
 
 -- what a cleared list has
 module _ (old cur : List ℕ) (from to : ℕ) (h : from ≤ to) (l : to ≤ length old) (e : cur ≡ take from old ++ (replicate (to - from) 0 ++ drop to old)) where
@@ -202,30 +178,10 @@ module _ (old cur : List ℕ) (from to : ℕ) (h : from ≤ to) (l : to ≤ leng
       ap length e
       ∙ simp (length-append, front, length-replicate, length-drop) (omega arith)
 
--- THE PLACES IN USE: the first i copied, and 0 after them
-pub record Copied (list cur : List ℕ) (i : ℕ) : Type 0 where
-  pub in_list : Rest (replicate 256 0) cur i
-  pub written : take i cur ≡ take i list
-
-pub copied-start : (list : List ℕ) → Copied list (replicate 256 0) 0
-copied-start list = record { in_list = record { kept = refl; rest = refl }; written = refl }
-
-pub copied_more : (list cur : List ℕ) (i : ℕ) → Copied list cur i → i < length cur → i < length list → Copied list (set cur i (get_or list i 0)) (i + 1)
-copied_more list cur i c h l =
-    record {
-      in_list = rest_more (replicate 256 0) cur i (get_or list i 0) c.in_list;
-      written = rw (add-one i, take-suc-set cur i (get_or list i 0) h, c.written, take-suc list i 0 l);
-    }
-
 pub drop-replicate : (n k v : ℕ) → drop n (replicate k v) ≡ replicate (k - n) v
 drop-replicate zero k v = let z : k - zero ≡ k = omega arith in rw z
 drop-replicate (suc n) zero v = let z : zero - suc n ≡ zero = omega arith in rw z
 drop-replicate (suc n) (suc k) v = let z : suc k - suc n ≡ k - n = omega arith in rw z (drop-replicate n k v)
-
-pub copied-done : (list cur : List ℕ) (n i : ℕ) → Copied list cur i → i ≡ n → cur ≡ take n list ++ replicate (256 - n) 0
-copied-done list cur n i c e =
-    rw (← e)
-    (sym (take-append-drop i cur) ∙ rw (c.written, c.in_list.rest) (ap (λ (l : List ℕ). take i list ++ l) (drop-replicate i 256 0)))
 
 -- SEVERAL
 
@@ -309,7 +265,7 @@ module _ (held all : ℕ) (starts ends : List ℕ) where
             in-ends = further ends ends' ends'' count'' f.in-ends (omega (arith, n, f.few)) p.ends-length p.ends-rest;
           }
 
-      pub taken-all : all ≤ i → (starts'' ends'' : List ℕ) → starts'' ≡ take count starts' ++ (replicate (all - count) 0 ++ drop all starts')
+      taken-all : all ≤ i → (starts'' ends'' : List ℕ) → starts'' ≡ take count starts' ++ (replicate (all - count) 0 ++ drop all starts')
           → ends'' ≡ take count ends' ++ (replicate (all - count) 0 ++ drop all ends') → Merged held all starts ends count starts'' ends''
       taken-all h starts'' ends'' p q =
           let z : all - i ≡ 0 = omega arith in
@@ -332,11 +288,17 @@ module _ (held all : ℕ) (starts ends : List ℕ) where
             fits = few;
           }
 
--- lists that are too short, or more held than all
-pub merge_none : (held all : ℕ) (starts ends : List ℕ) → (Within held all starts ends → ⊥) → MergedAfter held all starts ends held starts ends
-merge_none held all starts ends h =
-    record { merged = λ w. absurd (h w); too_short = λ z. record { count_same = refl; starts-same = refl; ends_same = refl } }
-
-pub merge-all : (held all : ℕ) (starts ends : List ℕ) (count : ℕ) (starts' ends' : List ℕ) → Within held all starts ends
-    → Merged held all starts ends count starts' ends' → MergedAfter held all starts ends count starts' ends'
-merge-all held all starts ends count starts' ends' w m = record { merged = λ z. m; too_short = λ z. absurd (z w) }
+-- zeros written over the places that are left
+pub merge-all : (held all : ℕ) (starts ends : List ℕ) → Within held all starts ends
+    → (starts' ends' : List ℕ) (count i : ℕ) → Taking held all starts ends starts' ends' count i → all ≤ i
+    → (zeros zeros' : List ℕ) → zeros ≡ replicate (length (mid_of count (all - count) starts')) 0
+    → zeros' ≡ replicate (length (mid_of count (all - count) ends')) 0
+    → MergedAfter held all starts ends count (put_mid count (all - count) starts' zeros) (put_mid count (all - count) ends' zeros')
+merge-all held all starts ends w starts' ends' count i f h zeros zeros' p q =
+    let few : count ≤ all = omega (arith, f.few, f.within) in
+    let a = cleared-by count all starts' zeros few (omega (arith, f.in-starts.kept, w.in-starts)) p in
+    let b = cleared-by count all ends' zeros' few (omega (arith, f.in-ends.kept, w.in-ends)) q in
+    record {
+      merged = λ z. taken-all held all starts ends w starts' ends' count i f h _ _ a b;
+      too_short = λ z. absurd (z w);
+    }

@@ -1,4 +1,5 @@
 -- What the struct's tests and stores mean for the controls that it holds. Assumes nothing.
+use Rattle.std.specs.Prelude.{Ok, Err}
 use Prim.Native.Nat.{ℕ, ◌+◌, ◌-◌, ◌≤◌, ◌<◌}
 use mathlib.Core.Path.{◌≡◌, refl, sym, ap, ◌∙◌}
 use mathlib.Core.Bool.{Bool, true, false, not, cond, ◌||◌}
@@ -8,6 +9,8 @@ use borrow.Author.Tests.{ltb-true, ltb-false, le-ltb, lt-leb, eq-eqb, not-false}
 use lib.Dec.{ltb, leb}
 use lib.ListN.{length, take, drop, set, replicate, drop_of_length-le, length-map, length-append, length-replicate, length-set, replicate-append-replicate}
 use lib.Seq.{take_all, sets, drop-set-lt, drop_at, take_at, drop-drop, length-take-le}
+use Rattle.reading.specs.declared.Refusal.{Refusal}
+use Rattle.reading.specs.Numbers.{refusal_number}
 use Rattle.reading.specs.declared.RuleIdRange.{RuleIdRange}
 use Rattle.reading.specs.declared.Place.{Place}
 use Rattle.reading.specs.Directive.{start_of, end_of}
@@ -75,9 +78,9 @@ pub ranges-kept : (c : Controls) → RangesKept c c
 ranges-kept c = record { count = refl; starts = refl; ends = refl }
 
 -- an addition that hands the struct back, since its answer is not 0
-handed-back : (adds : Bool) (c : Controls) (n answer : ℕ) (m : reading.Controls) → answer ≡ n → (n ≡ 0 → ⊥)
-    → Added adds c (record { answer = n; controls = c }) answer m
-handed-back adds c n answer m e d =
+handed-back : (adds : Bool) (c : Controls) (x : Refusal) (answer : ℕ) (m : reading.Controls) → answer ≡ refusal_number x → (refusal_number x ≡ 0 → ⊥)
+    → Added adds c (record { answer = Err x; controls = c }) answer m
+handed-back adds c x answer m e d =
     record { answer-is = sym e; became = λ z. absurd (d (sym e ∙ z)); refused = λ h. refl }
 
 -- RANGES MERGED IN
@@ -156,22 +159,11 @@ pub cleared-length : (done : Bool) (n : ℕ) (l : List ℕ) → length l ≡ 256
 cleared-length true n l e h = e
 cleared-length false n l e h = simp (length-append, length-replicate) (omega (arith, front n l e h))
 
--- what `clear` leaves up to the end, and where there is nothing to clear
-pub cleared-to-end : (n : ℕ) (l : List ℕ) → take n l ++ (replicate (length l - n) 0 ++ drop (length l) l) ≡ cleared_from false n l
-cleared-to-end n l =
-    rw (drop_of_length-le l {i = length l} (omega arith), append-nil {A = ℕ} (replicate (length l - n) 0))
-
-pub cleared-same : (n : ℕ) (l : List ℕ) → n ≤ length l → length (cleared_from false n l) ≡ length l
-cleared-same n l h = simp (length-append, length-replicate) (omega (arith, length-take-le n l h))
-
+-- where there is nothing to clear
 pub cleared-past : (n : ℕ) (l : List ℕ) → length l < n → l ≡ cleared_from false n l
 cleared-past n l h =
     let z : length l - n ≡ 0 = omega arith in
     rw (z, take_all n l (omega arith), append-nil l)
-
--- also with one place written
-pub cleared-set : (done : Bool) (n : ℕ) (l cur : List ℕ) (k v : ℕ) → length l ≡ 256 → n ≤ 256 → cur ≡ cleared_from done n l → 256 ≡ length (set cur k v)
-cleared-set done n l cur k v e h is = sym (length-set cur k v ∙ (ap length is ∙ cleared-length done n l e h))
 
 module _ (c : Controls) (ls : length c.starts ≡ 256) (le : length c.ends ≡ 256) (h : c.ranges ≤ 256) where
   pub cleared-means : (done : Bool) → controls_of (cleared_unless done c) ≡ controls_of c
@@ -298,26 +290,26 @@ module _ (c : Controls) (t : Bool) (is : t ≡ bad_parts c.ranges c.targets c.st
   unfolding add_target_answer
   target-answer = rw (bad c, ← is, targets-length c)
 
-  pub range-refused : (r : RuleIdRange) (n : ℕ) → cond t 3 (cond (ltb r.end r.start) 5 (cond (leb 256 c.ranges) 8 0)) ≡ n
-      → 0 < n → Added true c (record { answer = n; controls = c }) (add_range_answer (controls_of c) r) (with_range (controls_of c) r)
-  range-refused r n e h =
-      handed-back true c n (add_range_answer (controls_of c) r) (with_range (controls_of c) r) (range-answer r ∙ e) (λ z. omega arith)
+  pub range-refused : (r : RuleIdRange) (x : Refusal) → cond t 3 (cond (ltb r.end r.start) 5 (cond (leb 256 c.ranges) 8 0)) ≡ refusal_number x
+      → 0 < refusal_number x → Added true c (record { answer = Err x; controls = c }) (add_range_answer (controls_of c) r) (with_range (controls_of c) r)
+  range-refused r x e h =
+      handed-back true c x (add_range_answer (controls_of c) r) (with_range (controls_of c) r) (range-answer r ∙ e) (λ z. omega arith)
 
   -- c' is what `with_range` gave
   pub range-added : (r : RuleIdRange) (c' : Controls) → t ≡ false → r.start ≤ r.end → c.ranges < 256
       → Became true c c' (reading.with_ranges (controls_of c) (add_range (controls_of c).ranges r))
-      → Added true c (record { answer = 0; controls = c' }) (add_range_answer (controls_of c) r) (with_range (controls_of c) r)
+      → Added true c (record { answer = Ok tt; controls = c' }) (add_range_answer (controls_of c) r) (with_range (controls_of c) r)
   range-added r c' e o h b =
       let a : add_range_answer (controls_of c) r ≡ 0 = range-answer r ∙ rw (e, le-ltb r.end r.start o, lt-leb 256 c.ranges h) in
       record { answer-is = sym a; became = λ z. rw (eq-eqb (add_range_answer (controls_of c) r) 0 a) b; refused = λ z. absurd (z a) }
 
-  pub target-refused : (at : Place) (n : ℕ) → cond t 3 (cond (leb 64 c.targets) 9 0) ≡ n → 0 < n
-      → Added false c (record { answer = n; controls = c }) (add_target_answer (controls_of c)) (with_target (controls_of c) at)
-  target-refused at n e h =
-      handed-back false c n (add_target_answer (controls_of c)) (with_target (controls_of c) at) (target-answer ∙ e) (λ z. omega arith)
+  pub target-refused : (at : Place) (x : Refusal) → cond t 3 (cond (leb 64 c.targets) 9 0) ≡ refusal_number x → 0 < refusal_number x
+      → Added false c (record { answer = Err x; controls = c }) (add_target_answer (controls_of c)) (with_target (controls_of c) at)
+  target-refused at x e h =
+      handed-back false c x (add_target_answer (controls_of c)) (with_target (controls_of c) at) (target-answer ∙ e) (λ z. omega arith)
 
   pub target-added : (at : Place) → length c.phases ≡ 64 → length c.positions ≡ 64 → t ≡ false → c.targets < 64
-      → Added false c (record { answer = 0; controls = targeted c at }) (add_target_answer (controls_of c)) (with_target (controls_of c) at)
+      → Added false c (record { answer = Ok tt; controls = targeted c at }) (add_target_answer (controls_of c)) (with_target (controls_of c) at)
   target-added at lh lo e h =
       let a : add_target_answer (controls_of c) ≡ 0 = target-answer ∙ rw (e, lt-leb 64 c.targets h) in
       record {

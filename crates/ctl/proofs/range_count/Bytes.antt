@@ -1,4 +1,5 @@
 -- What a part says of which the pass has seen some bytes, byte by byte to its end. Assumes nothing.
+use Rattle.std.specs.Prelude.{Option, Some, None}
 use Prim.Native.Nat.{ℕ, ◌+◌, ◌-◌, ◌*◌, ◌≤◌}
 use mathlib.Core.Path.{◌≡◌, refl, sym, ap, ◌∙◌}
 use mathlib.Core.Bool.{Bool, true, false, cond, ◌&&◌}
@@ -6,13 +7,10 @@ use mathlib.Core.List.{List, [], ◌∷◌}
 use native.Mathlib.Omega.{arith}
 use borrow.Author.Tests.{leb-true, eqb-true, ne_eqb}
 use lib.Dec.{leb, eqb}
-use Rattle.reading.specs.declared.Number.{Number}
 use Rattle.reading.specs.declared.IdPart.{IdPart}
 use Rattle.reading.specs.Text.{is_blank, is_digit, largest, trim_start, trim_end, trim, without_plus, one_id, ids_to, ids_from, id_part}
 use Rattle.ctl.specs.declared.range_count.Stage.{Stage}
 use Rattle.ctl.specs.declared.range_count.PartState.{PartState}
-use Rattle.ctl.specs.declared.range_count.Step.{Step}
-use Rattle.ctl.specs.declared.range_count.PartEnd.{PartEnd}
 use Rattle.ctl.specs.Scan.{is_after_digits, part_start, digit_step, blank_step, dash_step, plus_step, other_step, pair_end, part_end}
 use Rattle.ctl.proofs.range_count.Numbers.{run_from, some_from, none_from, num_from, trim-other, trim-blank, before-other, digit-not-blank, num-digit, num-blank-start, num-blank-past, num-blank-plus, num-blank-digits, num-plus, num-other-plus, num-other-digits, num-other-past, num-other}
 use Rattle.ctl.proofs.range_count.Dashes.{dashed, not-dash, is_none, part-whole}
@@ -35,17 +33,17 @@ say_from false first stage v s = cond (none_seen stage s) IdPart.Blank (dashed (
 abbrev pub says : PartState → List ℕ → IdPart
 says p s = say_from p.second p.first p.stage p.value s
 
-abbrev pub says_next : Step → List ℕ → IdPart
-says_next (Step.Next p) s = says p s
-says_next Step.Bad s = IdPart.Bad
+abbrev pub says_next : Option PartState → List ℕ → IdPart
+says_next (Some p) s = says p s
+says_next None s = IdPart.Bad
 
-dashed-bad : (s : List ℕ) → dashed (λ l. Number.Bad) IdPart.Bad s ≡ IdPart.Bad
+dashed-bad : (s : List ℕ) → dashed (λ l. None) IdPart.Bad s ≡ IdPart.Bad
 unfolding dashed ids_from
 dashed-bad [] = refl
 dashed-bad (b ∷ s) = go (eqb b 45) (dashed-bad s)
   where
-    go : (t : Bool) → dashed (λ l. Number.Bad) IdPart.Bad s ≡ IdPart.Bad
-        → cond t IdPart.Bad (dashed (λ l. Number.Bad) IdPart.Bad s) ≡ IdPart.Bad
+    go : (t : Bool) → dashed (λ l. None) IdPart.Bad s ≡ IdPart.Bad
+        → cond t IdPart.Bad (dashed (λ l. None) IdPart.Bad s) ≡ IdPart.Bad
     go true ih = refl
     go false ih = ih
 
@@ -67,18 +65,18 @@ module _ (b : ℕ) (s : List ℕ) (first : ℕ) (stage : Stage) (v : ℕ) where
   goes_on true stage' v' d n h = ap (ids_to first) (h s)
   goes_on false stage' v' d n h =
       let f : (λ (l : List ℕ). num_from stage v (b ∷ l)) ≡ num_from stage' v' = λ i l. h l i in
-      rw (d, n) (ap (λ (g : List ℕ → Number). cond (none_seen stage' s) IdPart.Blank (dashed g (one_id (g s)) s)) f)
+      rw (d, n) (ap (λ (g : List ℕ → Option ℕ). cond (none_seen stage' s) IdPart.Blank (dashed g (one_id (g s)) s)) f)
 
   goes-bad : (second : Bool)
       → eqb b 45 ≡ false
       → none_seen stage (b ∷ s) ≡ false
-      → ((l : List ℕ) → num_from stage v (b ∷ l) ≡ Number.Bad)
+      → ((l : List ℕ) → num_from stage v (b ∷ l) ≡ None)
       → say_from second first stage v (b ∷ s) ≡ IdPart.Bad
   unfolding say_from dashed ids_to one_id
   goes-bad true d n h = ap (ids_to first) (h s)
   goes-bad false d n h =
-      let f : ◌≡◌ {A = List ℕ → Number} (λ l. num_from stage v (b ∷ l)) (λ l. Number.Bad) = λ i l. h l i in
-      rw (d, n) (ap (λ (g : List ℕ → Number). dashed g (one_id (g s)) s) f ∙ dashed-bad s)
+      let f : ◌≡◌ {A = List ℕ → Option ℕ} (λ l. num_from stage v (b ∷ l)) (λ l. None) = λ i l. h l i in
+      rw (d, n) (ap (λ (g : List ℕ → Option ℕ). dashed g (one_id (g s)) s) f ∙ dashed-bad s)
 
 -- each byte
 module _ (b : ℕ) (s : List ℕ) (second : Bool) (first : ℕ) where
@@ -97,10 +95,10 @@ module _ (b : ℕ) (s : List ℕ) (second : Bool) (first : ℕ) where
 
       go : (past fits : Bool)
           → ((l : List ℕ) → num_from stage v (b ∷ l)
-          ≡ cond past Number.Bad (cond fits (num_from Stage.Digits (v * 10 + (b - 48)) l) Number.Bad))
+          ≡ cond past None (cond fits (num_from Stage.Digits (v * 10 + (b - 48)) l) None))
           → say_from second first stage v (b ∷ s)
-          ≡ says_next (cond past Step.Bad
-          (cond fits (Step.Next (seen_as second first Stage.Digits (v * 10 + (b - 48)))) Step.Bad)) s
+          ≡ says_next (cond past None
+          (cond fits (Some (seen_as second first Stage.Digits (v * 10 + (b - 48)))) None)) s
       go true fits h = goes-bad b s first stage v second dash none h
       go false true h = goes_on b s first stage v second Stage.Digits (v * 10 + (b - 48)) dash none h
       go false false h = goes-bad b s first stage v second dash none h
@@ -120,7 +118,7 @@ module _ (b : ℕ) (s : List ℕ) (second : Bool) (first : ℕ) where
       goes_on b s first Stage.AfterDigits v second Stage.AfterDigits v (not-dash b e) refl (λ l. num-blank-past b l v e)
 
   module _ (d : is_digit b ≡ false) (e : is_blank b ≡ false) (k : eqb b 45 ≡ false) where
-    bad : (stage : Stage) (v : ℕ) → ((l : List ℕ) → num_from stage v (b ∷ l) ≡ Number.Bad)
+    bad : (stage : Stage) (v : ℕ) → ((l : List ℕ) → num_from stage v (b ∷ l) ≡ None)
         → say_from second first stage v (b ∷ s) ≡ IdPart.Bad
     bad stage v h = goes-bad b s first stage v second k (none_other b s stage e) h
 
@@ -161,7 +159,7 @@ pub digit-byte : (b : ℕ) → is_digit b ≡ true → (48 ≤ b) × (b ≤ 57)
 digit-byte b d = (leb-true 48 b (and_left (leb 48 b) (leb b 57) d), leb-true b 57 (and_right (leb 48 b) (leb b 57) d))
 
 -- one byte of a part, which is no comma
-abbrev pub byte_step : PartState → ℕ → Step
+abbrev pub byte_step : PartState → ℕ → Option PartState
 byte_step s b = cond (is_digit b) (digit_step s b) (other_step s b)
 
 pub on-byte : (b : ℕ) (s : List ℕ) (p : PartState) → says p (b ∷ s) ≡ says_next (byte_step p b) s
@@ -170,7 +168,7 @@ on-byte b s p = go (is_digit b) (is_blank b) (eqb b 45) (eqb b 43) refl refl ref
     go : (digit blank dash plus : Bool) → is_digit b ≡ digit → is_blank b ≡ blank → eqb b 45 ≡ dash → eqb b 43 ≡ plus
         → says p (b ∷ s)
         ≡ says_next (cond digit (digit_step p b)
-        (cond blank (blank_step p) (cond dash (dash_step p) (cond plus (plus_step p) Step.Bad)))) s
+        (cond blank (blank_step p) (cond dash (dash_step p) (cond plus (plus_step p) None)))) s
     go true blank dash plus d e k h =
         on-digit b s p.second p.first p.stage p.value (digit-byte b d).0 (digit-byte b d).1
     go false true dash plus d e k h = on-blank b s p.second p.first p.stage p.value d e
@@ -180,17 +178,17 @@ on-byte b s p = go (is_digit b) (is_blank b) (eqb b 45) (eqb b 43) refl refl ref
     go false false false false d e k h = on-other b s p.second p.first d e k p.stage p.value h
 
 -- the end of a part
-abbrev pub ended : IdPart → PartEnd
-ended IdPart.Blank = PartEnd.Counts 0
-ended (IdPart.Range r) = PartEnd.Counts 1
-ended IdPart.Bad = PartEnd.Bad
+abbrev pub ended : IdPart → Option ℕ
+ended IdPart.Blank = Some 0
+ended (IdPart.Range r) = Some 1
+ended IdPart.Bad = None
 
-pair_ends : (first v : ℕ) → pair_end first v ≡ ended (ids_to first (Number.Value v))
+pair_ends : (first v : ℕ) → pair_end first v ≡ ended (ids_to first (Some v))
 unfolding ids_to
 pair_ends first v = go (leb first v)
   where
     go : (t : Bool)
-        → cond t (PartEnd.Counts 1) PartEnd.Bad ≡ ended (cond t (IdPart.Range (record { start = first; end = v })) IdPart.Bad)
+        → cond t (Some 1) None ≡ ended (cond t (IdPart.Range (record { start = first; end = v })) IdPart.Bad)
     go true = refl
     go false = refl
 
@@ -209,12 +207,12 @@ at-end-so false first Stage.AfterDigits v = refl
 pub at-end : (p : PartState) → part_end p ≡ ended (says p [])
 at-end p = at-end-so p.second p.first p.stage p.value
 
-few-ended : (part : IdPart) (k : ℕ) → ended part ≡ PartEnd.Counts k → k ≤ 1
+few-ended : (part : IdPart) (k : ℕ) → ended part ≡ Some k → k ≤ 1
 few-ended IdPart.Blank k e = let z : 0 ≡ k = cc in omega arith
 few-ended (IdPart.Range r) k e = let z : 1 ≡ k = cc in omega arith
 few-ended IdPart.Bad k e = absurd (let z : ◌≡◌ {A = ℕ} 0 1 = cc in omega arith)
 
-pub few : (p : PartState) (k : ℕ) → part_end p ≡ PartEnd.Counts k → k ≤ 1
+pub few : (p : PartState) (k : ℕ) → part_end p ≡ Some k → k ≤ 1
 few p k e = few-ended (says p []) k (sym (at-end p) ∙ e)
 
 -- from its start

@@ -1,29 +1,20 @@
 -- A run of commas at the start of a part is passed at once. Assumes nothing.
-use Prim.Native.Nat.{ℕ, suc, ◌+◌, ◌≤◌, ◌<◌}
+use Prim.Native.Nat.{ℕ, suc, ◌+◌, ◌≤◌}
 use mathlib.Core.Path.{◌≡◌, refl, ap, ◌∙◌}
-use mathlib.Core.Bool.{Bool, true, false, cond}
+use mathlib.Core.Bool.{Bool, true, false, cond, not}
 use mathlib.Core.List.{List, [], ◌∷◌}
 use native.Mathlib.Omega.{arith}
-use borrow.Author.Tests.{eq-eqb, ne_eqb}
 use lib.Dec.{eqb}
-use lib.ListN.{length, drop, get_or, length-drop, drop_of_length-le}
-use lib.Seq.{drop-cons, drop-drop}
+use lib.ListN.{length, drop, length-drop}
+use lib.Seq.{drop-drop}
+use Rattle.std.specs.List.{position_or_len}
 use Rattle.ctl.specs.Scan.{part_start, leading_commas}
 use Rattle.ctl.proofs.range_count.Passing.{scan}
 
--- the commas from an index on, by the byte at that index
-module _ (s : List ℕ) (i : ℕ) where
-  pub commas-more : i < length s → get_or s i 0 ≡ 44 → i + leading_commas (drop i s) ≡ suc i + leading_commas (drop (suc i) s)
-  unfolding leading_commas
-  commas-more h c = rw (drop-cons s i 0 h, eq-eqb (get_or s i 0) 44 c) (omega arith)
-
-  pub commas-other : i < length s → (get_or s i 0 ≡ 44 → ⊥) → i + leading_commas (drop i s) ≡ i
-  unfolding leading_commas
-  commas-other h c = rw (drop-cons s i 0 h, ne_eqb (get_or s i 0) 44 c) (omega arith)
-
-  pub commas-end : length s ≤ i → i + leading_commas (drop i s) ≡ i
-  unfolding leading_commas
-  commas-end h = rw (drop_of_length-le s h) (omega arith)
+pub leading_is : (s : List ℕ) → leading_commas s ≡ position_or_len (λ b. not (eqb b 44)) s
+unfolding leading_commas
+leading_is [] = refl
+leading_is (b ∷ s) = grind (arith, leading_is s)
 
 commas-inside : (s : List ℕ) → leading_commas s ≤ length s
 unfolding leading_commas

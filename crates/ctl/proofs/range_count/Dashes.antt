@@ -1,4 +1,5 @@
 -- The first "-" of a part: trimming the part before it is cut there changes nothing. Assumes nothing.
+use Rattle.std.specs.Prelude.{Option}
 use Prim.Native.Nat.{ℕ, suc}
 use mathlib.Core.Path.{◌≡◌, refl, sym, ap, ◌∙◌}
 use mathlib.Core.Bool.{Bool, true, false, cond}
@@ -7,23 +8,22 @@ use native.Mathlib.Omega.{arith}
 use borrow.Author.Tests.{lt-ltb, eqb-true}
 use lib.Dec.{ltb, eqb, leb-suc-suc, eqb-suc-zero}
 use lib.ListN.{length, take, drop}
-use Rattle.reading.specs.declared.Number.{Number}
 use Rattle.reading.specs.declared.IdPart.{IdPart}
 use Rattle.reading.specs.Text.{is_blank, trim_start, before, trim_end, trim, number_of, index_of, holds_byte, cut_before, cut_after, one_id, ids_from, id_part}
 use Rattle.ctl.specs.declared.range_count.Stage.{Stage}
 use Rattle.ctl.proofs.range_count.Numbers.{num_from, num-start, before-other, trim-other, trim-blank, num-blank-start}
 
 -- a number from its start
-abbrev pub whole : List ℕ → Number
+abbrev pub whole : List ℕ → Option ℕ
 whole s = num_from Stage.Start 0 s
 
 -- what a part says whose bytes before a "-" are read by f, and that says x if it has no "-"
-unfoldable pub dashed : (List ℕ → Number) → IdPart → List ℕ → IdPart
+unfoldable pub dashed : (List ℕ → Option ℕ) → IdPart → List ℕ → IdPart
 dashed f x [] = x
 dashed f x (b ∷ s) = cond (eqb b 45) (ids_from (f []) (whole s)) (dashed (λ l. f (b ∷ l)) x s)
 
 -- a part is cut at the first "-"
-cut : (f : List ℕ → Number) (x : IdPart) (s : List ℕ)
+cut : (f : List ℕ → Option ℕ) (x : IdPart) (s : List ℕ)
     → cond (holds_byte 45 s) (ids_from (f (cut_before 45 s)) (number_of (trim (cut_after 45 s)))) x ≡ dashed f x s
 unfolding dashed index_of
 cut f x [] = refl
@@ -56,10 +56,10 @@ dash-start x (b ∷ s) = go (is_blank b) refl (dash-start x s)
         ≡ cond (eqb b 45) (ids_from (whole []) (whole s)) (dashed (λ l. whole (b ∷ l)) x s)
     go true e ih =
         let f : (λ (l : List ℕ). whole (b ∷ l)) ≡ whole = λ i l. num-blank-start b l 0 e i in
-        rw (not-dash b e) (ih ∙ ap (λ (g : List ℕ → Number). dashed g x s) (sym f))
+        rw (not-dash b e) (ih ∙ ap (λ (g : List ℕ → Option ℕ). dashed g x s) (sym f))
     go false e ih = refl
 
-dash-before : (f : List ℕ → Number) (x : IdPart) (b : ℕ) (t : List ℕ) → eqb b 45 ≡ false
+dash-before : (f : List ℕ → Option ℕ) (x : IdPart) (b : ℕ) (t : List ℕ) → eqb b 45 ≡ false
     → dashed f x (before b t) ≡ dashed (λ l. f (b ∷ l)) x t
 unfolding dashed before
 dash-before f x b [] e = go (is_blank b)
@@ -97,7 +97,7 @@ trim-trim_end (b ∷ s) = go (is_blank b) refl (trim-trim_end s)
         ap trim (before-other b (trim_end s) e)
         ∙ (trim-other b (trim_end s) e ∙ (ap (λ (l : List ℕ). b ∷ l) (end-twice s) ∙ sym (trim-other b s e)))
 
-dash-end : (f : List ℕ → Number) (x : IdPart) (s : List ℕ) → dashed f x (trim_end s) ≡ dashed f x s
+dash-end : (f : List ℕ → Option ℕ) (x : IdPart) (s : List ℕ) → dashed f x (trim_end s) ≡ dashed f x s
 unfolding dashed trim_end
 dash-end f x [] = refl
 dash-end f x (b ∷ s) = go (eqb b 45) refl (dash-end (λ l. f (b ∷ l)) x s)
@@ -132,5 +132,5 @@ part-whole s =
     = dash-trim (one_id (whole s)) s in
     ap (λ (u : Bool). cond u IdPart.Blank (cond (holds_byte 45 t) (ids_from (number_of (trim (cut_before 45 t))) (number_of (trim (cut_after 45 t)))) (one_id (number_of t)))) (none-length t)
     ∙ (ap (λ (p : IdPart). cond (is_none t) IdPart.Blank p) (cut (λ l. number_of (trim l)) (one_id (number_of t)) t)
-    ∙ (ap (λ (g : List ℕ → Number). cond (is_none t) IdPart.Blank (dashed g (one_id (g s)) t)) w
+    ∙ (ap (λ (g : List ℕ → Option ℕ). cond (is_none t) IdPart.Blank (dashed g (one_id (g s)) t)) w
     ∙ ap (λ (p : IdPart). cond (is_none t) IdPart.Blank p) c))

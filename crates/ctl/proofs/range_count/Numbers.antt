@@ -1,4 +1,5 @@
 -- A number of which the first bytes are read, at each stage of the pass. Assumes nothing.
+use Rattle.std.specs.Prelude.{Option, Some, None}
 use Prim.Native.Nat.{ℕ, ◌+◌, ◌-◌, ◌*◌, ◌≤◌}
 use mathlib.Core.Path.{◌≡◌, refl, sym, ap, ◌∙◌}
 use mathlib.Core.Bool.{Bool, true, false, cond, ◌&&◌}
@@ -6,28 +7,27 @@ use mathlib.Core.List.{List, [], ◌∷◌}
 use native.Mathlib.Omega.{arith}
 use borrow.Author.Tests.{le-leb, lt-leb, leb-true, leb-false, ne_eqb}
 use lib.Dec.{leb, eqb}
-use Rattle.reading.specs.declared.Number.{Number}
 use Rattle.reading.specs.Text.{is_blank, trim_start, before, trim_end, trim, is_digit, all_digits, value_from, largest, digits, without_plus, number_of}
 use Rattle.text.proofs.number.Digits.{digits_from, digits-start, digits-over}
 use Rattle.ctl.specs.declared.range_count.Stage.{Stage}
 use Rattle.ctl.specs.Scan.{is_after_digits}
 
 -- the digits so far come to v, and s follows: the value is held to the largest number at each digit
-unfoldable pub run_from : ℕ → List ℕ → Number
-run_from v [] = Number.Value v
+unfoldable pub run_from : ℕ → List ℕ → Option ℕ
+run_from v [] = Some v
 run_from v (d ∷ ds) =
-    cond (is_digit d && leb (v * 10 + (d - 48)) largest) (run_from (v * 10 + (d - 48)) ds) Number.Bad
+    cond (is_digit d && leb (v * 10 + (d - 48)) largest) (run_from (v * 10 + (d - 48)) ds) None
 
 -- the same where a digit must follow, and where nothing may
-unfoldable pub some_from : ℕ → List ℕ → Number
-some_from v [] = Number.Bad
+unfoldable pub some_from : ℕ → List ℕ → Option ℕ
+some_from v [] = None
 some_from v (d ∷ ds) = run_from v (d ∷ ds)
 
-unfoldable pub none_from : ℕ → List ℕ → Number
-none_from v [] = Number.Value v
-none_from v (x ∷ xs) = Number.Bad
+unfoldable pub none_from : ℕ → List ℕ → Option ℕ
+none_from v [] = Some v
+none_from v (x ∷ xs) = None
 
-unfoldable pub num_from : Stage → ℕ → List ℕ → Number
+unfoldable pub num_from : Stage → ℕ → List ℕ → Option ℕ
 num_from Stage.Start v s = some_from v (without_plus (trim s))
 num_from Stage.Plus v s = some_from v (trim_end s)
 num_from Stage.Digits v s = run_from v (trim_end s)
@@ -42,10 +42,10 @@ run-digits (d ∷ ds) v h =
   where
     go : (digit fits : Bool)
         → (fits ≡ true → run_from (v * 10 + (d - 48)) ds ≡ digits_from (v * 10 + (d - 48)) ds)
-        → (fits ≡ false → digits_from (v * 10 + (d - 48)) ds ≡ Number.Bad)
-        → cond (digit && fits) (run_from (v * 10 + (d - 48)) ds) Number.Bad
+        → (fits ≡ false → digits_from (v * 10 + (d - 48)) ds ≡ None)
+        → cond (digit && fits) (run_from (v * 10 + (d - 48)) ds) None
         ≡ cond ((digit && all_digits ds) && leb (value_from (v * 10 + (d - 48)) ds) largest)
-        (Number.Value (value_from (v * 10 + (d - 48)) ds)) Number.Bad
+        (Some (value_from (v * 10 + (d - 48)) ds)) None
     go true true next over = next refl
     go true false next over = sym (over refl)
     go false fits next over = refl
@@ -87,8 +87,8 @@ module _ (b : ℕ) (s : List ℕ) (v : ℕ) where
 
     pub num-digit : (stage : Stage)
         → num_from stage v (b ∷ s)
-        ≡ cond (is_after_digits stage) Number.Bad
-        (cond (leb (v * 10 + (b - 48)) largest) (num_from Stage.Digits (v * 10 + (b - 48)) s) Number.Bad)
+        ≡ cond (is_after_digits stage) None
+        (cond (leb (v * 10 + (b - 48)) largest) (num_from Stage.Digits (v * 10 + (b - 48)) s) None)
     unfolding num_from some_from none_from run_from without_plus trim_end
     num-digit Stage.Start =
         ap (λ (l : List ℕ). some_from v (without_plus l)) (trim-other b s not-blank) ∙ rw (ne_eqb b 43 (λ e. omega arith), digit_here)
@@ -110,11 +110,11 @@ module _ (b : ℕ) (s : List ℕ) (v : ℕ) where
         go (x ∷ xs) = refl
 
     module _ (d : is_digit b ≡ false) where
-      pub num-blank-plus : num_from Stage.Plus v (b ∷ s) ≡ Number.Bad
+      pub num-blank-plus : num_from Stage.Plus v (b ∷ s) ≡ None
       unfolding num_from some_from run_from trim_end before
       num-blank-plus = go (trim_end s)
         where
-          go : (t : List ℕ) → some_from v (before b t) ≡ Number.Bad
+          go : (t : List ℕ) → some_from v (before b t) ≡ None
           go [] = rw e
           go (x ∷ xs) = rw d
 
@@ -134,19 +134,19 @@ module _ (b : ℕ) (s : List ℕ) (v : ℕ) where
 
     -- any other byte, and a "+" that is not in front
     module _ (d : is_digit b ≡ false) where
-      pub num-other-plus : num_from Stage.Plus v (b ∷ s) ≡ Number.Bad
+      pub num-other-plus : num_from Stage.Plus v (b ∷ s) ≡ None
       unfolding num_from some_from run_from trim_end
       num-other-plus = ap (some_from v) (before-other b (trim_end s) e) ∙ rw d
 
-      pub num-other-digits : num_from Stage.Digits v (b ∷ s) ≡ Number.Bad
+      pub num-other-digits : num_from Stage.Digits v (b ∷ s) ≡ None
       unfolding num_from run_from trim_end
       num-other-digits = ap (run_from v) (before-other b (trim_end s) e) ∙ rw d
 
-      pub num-other-past : num_from Stage.AfterDigits v (b ∷ s) ≡ Number.Bad
+      pub num-other-past : num_from Stage.AfterDigits v (b ∷ s) ≡ None
       unfolding num_from none_from trim_end
       num-other-past = ap (none_from v) (before-other b (trim_end s) e)
 
-      pub num-other : eqb b 43 ≡ false → (stage : Stage) → num_from stage v (b ∷ s) ≡ Number.Bad
+      pub num-other : eqb b 43 ≡ false → (stage : Stage) → num_from stage v (b ∷ s) ≡ None
       unfolding num_from some_from run_from without_plus
       num-other p Stage.Start = ap (λ (l : List ℕ). some_from v (without_plus l)) (trim-other b s e) ∙ rw (p, d)
       num-other p Stage.Plus = num-other-plus

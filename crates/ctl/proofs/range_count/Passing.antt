@@ -1,4 +1,5 @@
 -- The pass counts what `removal_value` says. Assumes nothing.
+use Rattle.std.specs.Prelude.{Option, Some, None}
 use Prim.Native.Nat.{ℕ, suc, ◌+◌, ◌≤◌, ◌<◌}
 use mathlib.Core.Path.{◌≡◌, refl, sym, ap, ◌∙◌}
 use mathlib.Core.Bool.{Bool, true, false, cond, ◌||◌}
@@ -13,46 +14,43 @@ use Rattle.reading.specs.Text.{is_digit, trim_start, trim_end, trim, on_first, s
 use Rattle.reading.specs.declared.UnsupportedReason.{UnsupportedReason}
 use Rattle.reading.specs.Directive.{removal_value, unsupported, rule_remove_by_id}
 use Rattle.ctl.specs.declared.range_count.PartState.{PartState}
-use Rattle.ctl.specs.declared.range_count.Step.{Step}
-use Rattle.ctl.specs.declared.range_count.PartEnd.{PartEnd}
-use Rattle.ctl.specs.declared.range_count.RangeCount.{RangeCount}
 use Rattle.ctl.specs.CountRanges.{count_of, count_in}
 use Rattle.ctl.specs.Scan.{part_start, digit_step, other_step, part_end}
 use Rattle.ctl.proofs.range_count.Dashes.{is_none}
 use Rattle.ctl.proofs.range_count.Bytes.{none_seen, say_from, says, says_next, byte_step, on-byte, ended, at-end, part-start}
 
 -- the pass from what is seen of a part, with n ranges counted before it
-abbrev pub after_part : (ℕ → RangeCount) → ℕ → PartEnd → RangeCount
-after_part f n (PartEnd.Counts k) = f (n + k)
-after_part f n PartEnd.Bad = RangeCount.Unsupported
+abbrev pub after_part : (ℕ → Option ℕ) → ℕ → Option ℕ → Option ℕ
+after_part f n (Some k) = f (n + k)
+after_part f n None = None
 
-abbrev pub after_step : (PartState → RangeCount) → Step → RangeCount
-after_step f (Step.Next p) = f p
-after_step f Step.Bad = RangeCount.Unsupported
+abbrev pub after_step : (PartState → Option ℕ) → Option PartState → Option ℕ
+after_step f (Some p) = f p
+after_step f None = None
 
-unfoldable pub scan : List ℕ → PartState → ℕ → RangeCount
+unfoldable pub scan : List ℕ → PartState → ℕ → Option ℕ
 scan [] p n = after_part count_of n (part_end p)
 scan (b ∷ s) p n =
     cond (eqb b 44) (after_part (scan s part_start) n (part_end p)) (after_step (λ q. scan s q n) (byte_step p b))
 
 -- the count with n ranges passed and the parts ps to come, and the same with a part before them
-unfoldable count_from : ℕ → List (List ℕ) → RangeCount
-count_from n ps = cond (any_bad ps) RangeCount.Unsupported (count_of (n + length (ranges_in ps)))
+unfoldable count_from : ℕ → List (List ℕ) → Option ℕ
+count_from n ps = cond (any_bad ps) None (count_of (n + length (ranges_in ps)))
 
-abbrev count_with : ℕ → IdPart → List (List ℕ) → RangeCount
-count_with n part ps = cond (is_bad part) RangeCount.Unsupported (count_from (n + length (range_in part)) ps)
+abbrev count_with : ℕ → IdPart → List (List ℕ) → Option ℕ
+count_with n part ps = cond (is_bad part) None (count_from (n + length (range_in part)) ps)
 
 count-start : (value : List ℕ) → count_in (removal_value value) ≡ count_from 0 (id_parts value)
 unfolding count_from
 count-start value =
     let rs = ranges_in (id_parts value) in
     go (any_bad (id_parts value)) (eqb (length rs) 0)
-    ∙ ap (λ (n : ℕ). cond (any_bad (id_parts value)) RangeCount.Unsupported (count_of n))
+    ∙ ap (λ (n : ℕ). cond (any_bad (id_parts value)) None (count_of n))
     (let z : length rs ≡ 0 + length rs = omega arith in z)
   where
     go : (bad none : Bool)
         → count_in (cond (bad || none) (unsupported UnsupportedReason.IdList) (rule_remove_by_id (ranges_in (id_parts value))))
-        ≡ cond bad RangeCount.Unsupported (cond none RangeCount.Unsupported (RangeCount.Ranges (length (ranges_in (id_parts value)))))
+        ≡ cond bad None (cond none None (Some (length (ranges_in (id_parts value)))))
     go true none = refl
     go false true = refl
     go false false = refl
@@ -68,18 +66,18 @@ count-part n p ps =
     = omega (arith, length-append (range_in (id_part p)) (ranges_in ps)) in
     go (is_bad (id_part p)) (any_bad ps) (ap count_of z)
   where
-    go : {x y : RangeCount} (bad rest : Bool) → x ≡ y
-        → cond bad RangeCount.Unsupported (cond rest RangeCount.Unsupported x) ≡ cond (bad || rest) RangeCount.Unsupported y
+    go : {x y : Option ℕ} (bad rest : Bool) → x ≡ y
+        → cond bad None (cond rest None x) ≡ cond (bad || rest) None y
     go true rest e = refl
     go false true e = refl
     go false false e = e
 
 -- the count of parts of which the first is seen in part
-abbrev count_parts : PartState → ℕ → List (List ℕ) → RangeCount
+abbrev count_parts : PartState → ℕ → List (List ℕ) → Option ℕ
 count_parts p n [] = count_with n (says p []) []
 count_parts p n (t ∷ ts) = count_with n (says p t) ts
 
-ends_so : (f : ℕ → RangeCount) (n : ℕ) (part : IdPart) (ts : List (List ℕ)) → ((m : ℕ) → f m ≡ count_from m ts)
+ends_so : (f : ℕ → Option ℕ) (n : ℕ) (part : IdPart) (ts : List (List ℕ)) → ((m : ℕ) → f m ≡ count_from m ts)
     → after_part f n (ended part) ≡ count_with n part ts
 ends_so f n IdPart.Blank ts h = h (n + 0)
 ends_so f n (IdPart.Range r) ts h = h (n + 1)
@@ -90,13 +88,13 @@ unfolding say_from none_seen is_none trim trim_start trim_end
 parts-start n [] = let z : n + 0 ≡ n = omega arith in ap (λ (m : ℕ). count_from m []) z
 parts-start n (t ∷ ts) = ap (λ (q : IdPart). count_with n q ts) (part-start t) ∙ count-part n t ts
 
-goes_so : (n : ℕ) (f : PartState → RangeCount) (step : Step) (t : List ℕ) (ts : List (List ℕ))
+goes_so : (n : ℕ) (f : PartState → Option ℕ) (step : Option PartState) (t : List ℕ) (ts : List (List ℕ))
     → ((q : PartState) → f q ≡ count_with n (says q t) ts)
     → after_step f step ≡ count_with n (says_next step t) ts
-goes_so n f (Step.Next q) t ts h = h q
-goes_so n f Step.Bad t ts h = refl
+goes_so n f (Some q) t ts h = h q
+goes_so n f None t ts h = refl
 
-step_so : (b : ℕ) (p : PartState) (n : ℕ) (f : PartState → RangeCount) (ts : List (List ℕ)) → ((q : PartState) → f q ≡ count_parts q n ts)
+step_so : (b : ℕ) (p : PartState) (n : ℕ) (f : PartState → Option ℕ) (ts : List (List ℕ)) → ((q : PartState) → f q ≡ count_parts q n ts)
     → after_step f (byte_step p b) ≡ count_parts p n (on_first b ts)
 unfolding on_first
 step_so b p n f [] h = goes_so n f (byte_step p b) [] [] h ∙ ap (λ (q : IdPart). count_with n q []) (sym (on-byte b [] p))
@@ -123,7 +121,7 @@ pass-counts value = count-start value ∙ sym (pass-so value part_start 0 ∙ pa
 -- a turn of the loop
 module _ (s : List ℕ) (p : PartState) (n i : ℕ) where
   module _ (h : i < length s) where
-    module _ (step : Step) (c : get_or s i 0 ≡ 44 → ⊥) where
+    module _ (step : Option PartState) (c : get_or s i 0 ≡ 44 → ⊥) where
       pub turn-digit : is_digit (get_or s i 0) ≡ true → digit_step p (get_or s i 0) ≡ step
           → scan (drop i s) p n ≡ after_step (λ q. scan (drop (suc i) s) q n) step
       unfolding scan
@@ -134,11 +132,11 @@ module _ (s : List ℕ) (p : PartState) (n i : ℕ) where
       unfolding scan
       turn-other d e = rw (drop-cons s i 0 h, ne_eqb (get_or s i 0) 44 c, d, e)
 
-    pub turn-comma : (end : PartEnd) → get_or s i 0 ≡ 44 → part_end p ≡ end
+    pub turn-comma : (end : Option ℕ) → get_or s i 0 ≡ 44 → part_end p ≡ end
         → scan (drop i s) p n ≡ after_part (scan (drop (suc i) s) part_start) n end
     unfolding scan
     turn-comma end c e = rw (drop-cons s i 0 h, eq-eqb (get_or s i 0) 44 c, e)
 
-  pub turn_end : (end : PartEnd) → length s ≤ i → part_end p ≡ end → scan (drop i s) p n ≡ after_part count_of n end
+  pub turn_end : (end : Option ℕ) → length s ≤ i → part_end p ≡ end → scan (drop i s) p n ≡ after_part count_of n end
   unfolding scan
   turn_end end h e = rw (drop_of_length-le s h, e)

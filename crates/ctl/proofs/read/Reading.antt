@@ -1,4 +1,5 @@
 -- What the reader answers and leaves, by its tests. Assumes nothing.
+use Rattle.std.specs.Prelude.{Some, None}
 use Prim.Native.Nat.{ℕ, ◌≤◌, ◌<◌, min}
 use mathlib.Core.Path.{◌≡◌, refl, sym, ap, ◌∙◌}
 use mathlib.Core.Bool.{Bool, true, false, cond, ◌||◌}
@@ -11,7 +12,6 @@ use lib.ListN.{length, take}
 use lib.Seq.{take_all}
 use Rattle.reading.specs.declared.RuleIdRange.{RuleIdRange}
 use Rattle.reading.specs.declared.CtlDirective.{CtlDirective}
-use Rattle.reading.specs.declared.OptionDirective.{OptionDirective}
 use Rattle.reading.specs.Lists.{any, over}
 use Rattle.reading.specs.Text.{same, ascii, trim, fold, holds_byte, cut_before, cut_after, id_parts, any_bad, ranges_in}
 use Rattle.reading.specs.Directive.{Directive, rule_engine, rule_remove_by_id, rule_remove_target_by_id, request_body_access}
@@ -136,7 +136,7 @@ module _ (name value starts ends : List ℕ) where
   room = min (length starts) (length ends)
 
   pub refusal-answer : (n : ℕ) → reader_answer name value room ≡ n → eqb n 0 ≡ false
-      → ◌≡◌ {A = ReaderOutcome} (record { answer = n; directive = OptionDirective.None; starts = starts; ends = ends })
+      → ◌≡◌ {A = ReaderOutcome} (record { answer = n; directive = None; starts = starts; ends = ends })
       (reader_outcome name value starts ends)
   unfolding reader_outcome
   refusal-answer n e z = rw (e, z)
@@ -145,10 +145,10 @@ module _ (name value starts ends : List ℕ) where
       → d ≡ without_lists value (directive_of name value)
       → starts' ≡ over starts (map start_of (ranges_of (directive_of name value)))
       → ends' ≡ over ends (map end_of (ranges_of (directive_of name value)))
-      → ◌≡◌ {A = ReaderOutcome} (record { answer = 0; directive = OptionDirective.Some d; starts = starts'; ends = ends' })
+      → ◌≡◌ {A = ReaderOutcome} (record { answer = 0; directive = Some d; starts = starts'; ends = ends' })
       (reader_outcome name value starts ends)
   unfolding reader_outcome
-  accepted d starts' ends' e p q r = rw e (λ i. record { answer = 0; directive = OptionDirective.Some (p i); starts = q i; ends = r i })
+  accepted d starts' ends' e p q r = rw e (λ i. record { answer = 0; directive = Some (p i); starts = q i; ends = r i })
 
   -- the lists with the ranges written
   module _ (v starts' ends' : List ℕ) (ve : v ≡ trim value)

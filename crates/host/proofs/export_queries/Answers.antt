@@ -1,19 +1,24 @@
 -- A host's question that is refused, and one that is answered. Assumes nothing.
+use Rattle.std.specs.Prelude.{Option, None, Result, Ok, Err}
 use Prim.Native.Nat.{ℕ}
-use mathlib.Core.Path.{◌≡◌, sym, ap, ◌∙◌}
+use mathlib.Core.Path.{◌≡◌, refl, sym, ap, ◌∙◌}
 use mathlib.Core.Bool.{Bool, true, false, cond}
+use native.Mathlib.Omega.{arith}
 use borrow.Author.Tests.{ne_eqb}
-use Rattle.reading.specs.declared.OptionPlace.{OptionPlace}
-use Rattle.reading.specs.Controls.{Asked, ask_target}
+use Rattle.reading.specs.declared.Place.{Place}
+use Rattle.reading.specs.declared.Refusal.{Refusal}
+use Rattle.reading.specs.Numbers.{refusal_number}
+use Rattle.reading.specs.Controls.{Asked, asked, ask_target, bad_controls}
+use Rattle.reading.specs.Controls as reading
+use Rattle.lists.proofs.RefusalLaws.{numbered}
 use Rattle.control.specs.declared.state.Controls.{Controls}
 use Rattle.control.specs.ControlsStruct.{controls_of}
+use Rattle.control.specs.QueryAnswers.{asked_by}
 use Rattle.control.proofs.state.HeldLaws.{bad_parts, bad}
-use Rattle.control.specs.QueryAnswers.{Answered}
 use Rattle.abi.specs.declared.host_controls.HostControls.{HostControls}
-use Rattle.abi.specs.declared.values.HostPlace.{HostPlace}
 use Rattle.abi.specs.HostValues.{host_place}
 use Rattle.abi.specs.HostControls.{known_controls, controls_from_host}
-use Rattle.host.specs.HostQueries.{controls_in, refusal_in, answered, host_target}
+use Rattle.host.specs.HostQueries.{controls_in, refusal_in, answered, answered_by, target_by, host_target}
 
 -- t is what `is_bad` gave
 module _ (c : HostControls) (known t : Bool) (is : t ≡ bad_parts c.ranges c.targets c.starts c.ends) where
@@ -30,35 +35,49 @@ module _ (c : HostControls) (known t : Bool) (is : t ≡ bad_parts c.ranges c.ta
   pub says-0 : t ≡ false → known ≡ true → 0 ≡ refusal_in c known
   says-0 e k = sym (met ∙ rw (e, k))
 
--- n is what `refusal` gave of b, and b what was asked of the numbers
-pub told : (c : HostControls) (known b : Bool) (n : ℕ) → b ≡ known → n ≡ refusal_in c b → n ≡ refusal_in c known
-told c known b n e is = is ∙ ap (refusal_in c) e
+module _ (c : HostControls) (known : Bool) where
+  -- e refused before the question was asked
+  pub refuses : {A : Type 0} (number : A → ℕ) (q : Asked A) (r : Result ℕ Refusal) (e : Refusal) → r ≡ Err e
+      → refusal_number e ≡ refusal_in c known → answered_by r ≡ answered (refusal_in c known) number q
+  refuses number q r e is n = rw is (rw (← n) (rw (ne_eqb (refusal_number e) 0 (numbered e))))
 
-module _ (c : HostControls) (known : Bool) (n : ℕ) (is : n ≡ refusal_in c known) where
-  module _ {A : Type 0} (number : A → ℕ) where
-    pub refuses : (q : Asked A) → (n ≡ 0 → ⊥) → record { answer = n; value = 0 } ≡ answered (refusal_in c known) number q
-    refuses q z = rw (sym is) (rw (ne_eqb n 0 z))
+  module _ (z : ◌≡◌ {A = ℕ} 0 (refusal_in c known)) (x : Controls) (ex : x ≡ controls_from_host c) where
+    not-bad : bad_controls (controls_of x) ≡ false
+    unfolding refusal_in
+    not-bad = rw ex (go (bad_controls (controls_in c)) z)
+      where
+        go : (b : Bool) → ◌≡◌ {A = ℕ} 0 (cond b 3 (cond known 0 5)) → b ≡ false
+        go true h = absurd (let y : ◌≡◌ {A = ℕ} 0 3 = h in omega arith)
+        go false h = refl
 
-    pub gives : (ask : Controls → Asked A) (x : Controls) (a : A) (r v : ℕ) → n ≡ 0 → x ≡ controls_from_host c
-        → Answered r a (ask x) → v ≡ number a
-        → record { answer = 0; value = v } ≡ answered (refusal_in c known) number (ask (controls_from_host c))
-    gives ask x a r v z ex given e =
-        let t : refusal_in c known ≡ 0 = sym is ∙ z in
-        let w : v ≡ number (ask (controls_from_host c)).value
-        = e ∙ ap number (given.value-is ∙ ap (λ (y : Controls). (ask y).value) ex) in
-        rw t (λ i. record { answer = 0; value = w i })
+    -- so the question itself refuses nothing
+    pub not-twice : {A : Type 0} (value other given : A) (e : Refusal)
+        → record { answer = refusal_number e; value = given } ≡ asked (controls_of x) value other → ⊥
+    not-twice value other given e is = numbered e (ap (λ q. q.answer) is ∙ rw not-bad)
+
+    pub gives : {A : Type 0} (number : A → ℕ) (ask : reading.Controls → Asked A) (a : A) (v : ℕ)
+        → record { answer = 0; value = a } ≡ ask (controls_of x) → v ≡ number a
+        → record { answer = 0; value = v } ≡ answered (refusal_in c known) number (ask (controls_in c))
+    gives number ask a v given e =
+        let w : v ≡ number (ask (controls_in c)).value
+        = e ∙ ap number (ap (λ q. q.value) given ∙ ap (λ (y : Controls). (ask (controls_of y)).value) ex) in
+        rw (← z) (λ i. record { answer = 0; value = w i })
 
 -- the same of a target
-module _ (c : HostControls) (n : ℕ) (is : n ≡ refusal_in c (known_controls c)) where
-  pub no_target : (at : ℕ) (p : HostPlace) → (n ≡ 0 → ⊥) → p ≡ host_place OptionPlace.None → record { answer = n; target = p } ≡ host_target c at
+module _ (c : HostControls) where
+  pub no_target : (at : ℕ) (r : Result (Option Place) Refusal) (e : Refusal) → r ≡ Err e
+      → refusal_number e ≡ refusal_in c (known_controls c) → target_by r ≡ host_target c at
   unfolding host_target
-  no_target at p z e = rw (sym is) (rw (ne_eqb n 0 z) (λ i. record { answer = n; target = e i }))
+  no_target at r e is n = rw is (rw (← n) (rw (ne_eqb (refusal_number e) 0 (numbered e))))
 
-  pub target : (at : ℕ) (p : HostPlace) (x : Controls) (o : OptionPlace) (r : ℕ) → n ≡ 0 → x ≡ controls_from_host c
-      → Answered r o (ask_target (controls_of x) at) → p ≡ host_place o → record { answer = 0; target = p } ≡ host_target c at
+  pub target : (at : ℕ) (x : Controls) (o : Option Place) → ◌≡◌ {A = ℕ} 0 (refusal_in c (known_controls c)) → x ≡ controls_from_host c
+      → record { answer = 0; value = o } ≡ ask_target (controls_of x) at → record { answer = 0; target = host_place o } ≡ host_target c at
   unfolding host_target
-  target at p x o r z ex given e =
-      let t : refusal_in c (known_controls c) ≡ 0 = sym is ∙ z in
-      let w : p ≡ host_place (ask_target (controls_in c) at).value
-      = e ∙ ap host_place (given.value-is ∙ ap (λ (y : Controls). (ask_target (controls_of y) at).value) ex) in
-      rw t (λ i. record { answer = 0; target = w i })
+  target at x o z ex given =
+      let w : o ≡ (ask_target (controls_in c) at).value = ap (λ q. q.value) given ∙ ap (λ (y : Controls). (ask_target (controls_of y) at).value) ex in
+      rw (← z) (λ i. record { answer = 0; target = host_place (w i) })
+
+  pub found : (at : ℕ) (x : Controls) (r : Result (Option Place) Refusal) → ◌≡◌ {A = ℕ} 0 (refusal_in c (known_controls c))
+      → x ≡ controls_from_host c → asked_by None r ≡ ask_target (controls_of x) at → target_by r ≡ host_target c at
+  found at x (Ok o) z ex given = target at x o z ex given
+  found at x (Err e) z ex given = absurd (not-twice c (known_controls c) z x ex _ _ _ e given)

@@ -1,15 +1,15 @@
 -- The parts of a unit's intervention. Assumes nothing.
+use Rattle.std.specs.Prelude.{Option, Some, None}
 use Prim.Native.Nat.{ℕ}
 use mathlib.Core.Path.{◌≡◌, refl, ap, ◌∙◌}
 use mathlib.Core.Bool.{Bool}
 use mathlib.Core.List.{List}
 use borrow.Author.Tests.{eq-eqb, ne_eqb}
 use lib.ListN.{get_or}
+use Rattle.reading.specs.declared.Place.{Place}
 use Rattle.reading.specs.declared.CallSettings.{CallSettings}
 use Rattle.reading.specs.declared.Rule.{Rule}
 use Rattle.reading.specs.declared.Marker.{Marker}
-use Rattle.reading.specs.declared.OptionU64.{OptionU64}
-use Rattle.reading.specs.declared.OptionPlace.{OptionPlace}
 use Rattle.reading.specs.declared.DisruptiveOutcome.{DisruptiveOutcome}
 use Rattle.reading.specs.declared.RuleMetadata.{RuleMetadata}
 use Rattle.reading.specs.declared.Intervention.{Intervention}
@@ -20,19 +20,19 @@ use Rattle.reading.specs.Units.{starter_of, closer_of, stop_status, drops, addre
 use Rattle.intervention.specs.BuildIntervention.{status_by}
 
 pub redirected : (phase at : ℕ) (d : DisruptiveOutcome) → d ≡ DisruptiveOutcome.Redirect at
-    → OptionPlace.Some (record { phase = phase; position = at }) ≡ address_of phase d
+    → Some (record { phase = phase; position = at }) ≡ address_of phase d
 redirected phase at d e = rw e
 
-pub same_id : (first id : OptionU64) (a b : ℕ) → first ≡ OptionU64.Some a → id ≡ OptionU64.Some b → a ≡ b
-    → OptionU64.None ≡ if_different first id
+pub same_id : (first id : Option ℕ) (a b : ℕ) → first ≡ Some a → id ≡ Some b → a ≡ b
+    → None ≡ if_different first id
 same_id first id a b h k e = rw (h, k, eq-eqb a b e)
 
-pub other-id : (first id : OptionU64) (a b : ℕ) → first ≡ OptionU64.Some a → id ≡ OptionU64.Some b → (a ≡ b → ⊥)
-    → OptionU64.Some b ≡ if_different first id
+pub other-id : (first id : Option ℕ) (a b : ℕ) → first ≡ Some a → id ≡ Some b → (a ≡ b → ⊥)
+    → Some b ≡ if_different first id
 other-id first id a b h k e = rw (h, k, ne_eqb a b e)
 
 -- interventions with the same parts
-built : {s s' : ℕ} {u u' l l' : OptionPlace} {c c' o o' : OptionU64} (phase : ℕ) {d d' : Bool} {m m' : RuleMetadata}
+built : {s s' : ℕ} {u u' l l' : Option Place} {c c' o o' : Option ℕ} (phase : ℕ) {d d' : Bool} {m m' : RuleMetadata}
     → s ≡ s' → u ≡ u' → l ≡ l' → c ≡ c' → o ≡ o' → d ≡ d' → m ≡ m'
     → ◌≡◌ {A = Intervention}
     (record { status = s; url = u; log = l; closing = c; starter = o; phase = phase; drop = d; metadata = m })
@@ -62,9 +62,9 @@ module _ (call : CallSettings) (rules actions : List ℕ) (markers : List Marker
       → {r k : Rule} → r ≡ get_or (rule_list rules) starter no_rule → k ≡ get_or (rule_list rules) closer no_rule
       → {d : DisruptiveOutcome} → d ≡ last_disruptive (actions_of (action_list actions) r)
       → {m : RuleMetadata} → m ≡ metadata_of phase (actions_of (action_list actions) r)
-      → {c : OptionU64} → c ≡ record_id k
-      → {u : OptionPlace} → u ≡ address_of phase d
-      → {o : OptionU64} → o ≡ if_different c m.id
+      → {c : Option ℕ} → c ≡ record_id k
+      → {u : Option Place} → u ≡ address_of phase d
+      → {o : Option ℕ} → o ≡ if_different c m.id
       → {s : ℕ} → s ≡ status_by d call.default_status
       → {b : Bool} → b ≡ drops d
       → ◌≡◌ {A = Intervention}

@@ -1,10 +1,10 @@
 -- Cases written as 01 writes them, and the calls that they stand for.
-use Rattle.std.specs.Prelude.{ℕ, zero, suc, ◌+◌, ◌-◌, ◌*◌, Bool, true, false, not, cond, ◌&&◌, ◌||◌, List, [], ◌∷◌, ◌++◌, map, length, take, drop as past, replicate, eqb}
+use Rattle.std.specs.Prelude.{ℕ, zero, suc, ◌+◌, ◌-◌, ◌*◌, Bool, true, false, not, cond, ◌&&◌, ◌||◌, List, [], ◌∷◌, ◌++◌, map, length, take, drop as past, replicate, eqb, Option, Some, None}
 use Prim.Native.String.{String}
+use Rattle.reading.specs.declared.BodyProcessor.{BodyProcessor}
+use Rattle.reading.specs.declared.BodyAccess.{BodyAccess}
+use Rattle.reading.specs.declared.Place.{Place}
 use Rattle.reading.specs.declared.RuleEngineMode.{RuleEngineMode}
-use Rattle.reading.specs.declared.ModeSetting.{ModeSetting}
-use Rattle.reading.specs.declared.AccessSetting.{AccessSetting}
-use Rattle.reading.specs.declared.ProcessorSetting.{ProcessorSetting}
 use Rattle.reading.specs.declared.RuleIdRange.{RuleIdRange}
 use Rattle.reading.specs.declared.UnsupportedReason.{UnsupportedReason}
 use Rattle.reading.specs.declared.Part.{Part}
@@ -15,10 +15,7 @@ use Rattle.reading.specs.declared.DataEntry.{DataEntry}
 use Rattle.reading.specs.declared.JournalEntry.{JournalEntry}
 use Rattle.reading.specs.declared.UnsupportedAt.{UnsupportedAt}
 use Rattle.reading.specs.declared.Report.{Report}
-use Rattle.reading.specs.declared.OptionU64.{OptionU64}
-use Rattle.reading.specs.declared.OptionPlace.{OptionPlace}
 use Rattle.reading.specs.declared.Intervention.{Intervention}
-use Rattle.reading.specs.declared.OptionIntervention.{OptionIntervention}
 use Rattle.reading.specs.Lists.{gather, total}
 use Rattle.reading.specs.Text.{ascii, same}
 use Rattle.reading.specs.Numbers.{mode_number, mode_setting_number, access_setting_number, processor_setting_number, present_number, number_or_zero, reason_number}
@@ -136,7 +133,7 @@ act_value (status n) = []
 -- A RULE AND A MARKER AS THEY ARE WRITTEN
 
 pub record Written : Type 0 where
-  pub id : OptionU64
+  pub id : Option ℕ
   pub link : ℕ
   pub outcome : ℕ
   pub acts : List Act
@@ -147,18 +144,18 @@ pub record Named : Type 0 where
 
 -- 01: "every numbered rule has its id action", "all matched with outcome 2, unless said"
 abbrev pub rule : ℕ → List Act → Written
-rule n acts = record { id = OptionU64.Some n; link = 0; outcome = 2; acts = id n ∷ acts }
+rule n acts = record { id = Some n; link = 0; outcome = 2; acts = id n ∷ acts }
 
 -- 01: ""20 link deny" is a link with rule id 20, an id action 20 and a deny"
 abbrev pub link : ℕ → List Act → Written
-link n acts = record { id = OptionU64.Some n; link = 1; outcome = 2; acts = id n ∷ acts }
+link n acts = record { id = Some n; link = 1; outcome = 2; acts = id n ∷ acts }
 
 -- a rule, and a link, without an id and without an id action
 abbrev pub no_id : List Act → Written
-no_id acts = record { id = OptionU64.None; link = 0; outcome = 2; acts = acts }
+no_id acts = record { id = None; link = 0; outcome = 2; acts = acts }
 
 abbrev pub no_id_link : List Act → Written
-no_id_link acts = record { id = OptionU64.None; link = 1; outcome = 2; acts = acts }
+no_id_link acts = record { id = None; link = 1; outcome = 2; acts = acts }
 
 -- the same rule with another outcome
 abbrev pub with_outcome : ℕ → Written → Written
@@ -224,7 +221,7 @@ call_with reading mode held allowed ws ms = record {
     text = acts_text (all_acts ws) ++ markers_text ms;
     outcomes = map (λ w. w.outcome) ws;
   };
-  transaction = record { controls = held; allowed = allowed; intervention = OptionIntervention.None; ids = 1; data-entries = 1 };
+  transaction = record { controls = held; allowed = allowed; intervention = None; ids = 1; data-entries = 1 };
   lists = record {
     ids = replicate (length ws + 2) 9;
     data-entries = replicate (length ws + 2) lent_data;
@@ -250,7 +247,7 @@ apart zero = []
 apart (suc n) = range (2000 - 2 * n) (2000 - 2 * n) ∷ apart n
 
 abbrev pub holding : List RuleIdRange → Controls
-holding rs = record { mode = ModeSetting.Unset; ranges = rs; targets = []; access = AccessSetting.Unset; processor = ProcessorSetting.Unset }
+holding rs = record { mode = None; ranges = rs; targets = []; access = None; processor = None }
 
 abbrev pub call_holding : List RuleIdRange → List Written → Call
 call_holding rs ws = call_with rust RuleEngineMode.On (holding rs) false ws []
@@ -296,21 +293,21 @@ abbrev pub error : ℕ → Seen
 error i = record { at = i; verdict = 3 }
 
 pub record Entry : Type 0 where
-  pub id : OptionU64
+  pub id : Option ℕ
   pub at : ℕ
 
 abbrev pub entry : ℕ → ℕ → Entry
-entry n i = record { id = OptionU64.Some n; at = i }
+entry n i = record { id = Some n; at = i }
 
 abbrev pub no_id_entry : ℕ → Entry
-no_id_entry i = record { id = OptionU64.None; at = i }
+no_id_entry i = record { id = None; at = i }
 
 -- no intervention; one with a status and ids, without address, log and drop; one with the positions of its address and
 -- its log, if any, and whether it drops the connection
 pub data Stop : Type 0 where
   none : Stop
   stopped : ℕ → List ℕ → Stop
-  stopped_with : ℕ → List ℕ → OptionU64 → OptionU64 → Bool → Stop
+  stopped_with : ℕ → List ℕ → Option ℕ → Option ℕ → Bool → Stop
 
 -- a directive alone, and the number of its reason: 0 where it is supported
 pub record Told : Type 0 where
@@ -340,9 +337,9 @@ pub record Row : Type 0 where
   pub answer : ℕ
   pub error-index : ℕ
   pub found : Found
-  pub mode : ModeSetting
-  pub access : AccessSetting
-  pub processor : ProcessorSetting
+  pub mode : Option RuleEngineMode
+  pub access : Option BodyAccess
+  pub processor : Option BodyProcessor
   pub ranges : ℕ
   pub held : List (List RuleIdRange)
   pub targets : ℕ
@@ -410,7 +407,7 @@ refused name q number =
     leaving q.transaction.controls.ranges (row_of name q number 0 nothing 0 (length q.transaction.controls.targets) [] [] [])
 
 -- a row after which other settings are held than at entry
-abbrev pub settling : AccessSetting → ProcessorSetting → ModeSetting → Row → Row
+abbrev pub settling : Option BodyAccess → Option BodyProcessor → Option RuleEngineMode → Row → Row
 settling access processor mode r = record {
   name = r.name;
   phase-call = r.phase-call;
@@ -430,7 +427,7 @@ settling access processor mode r = record {
 }
 
 abbrev pub switching : RuleEngineMode → Row → Row
-switching mode r = settling r.access r.processor (ModeSetting.Set mode) r
+switching mode r = settling r.access r.processor (Some mode) r
 
 -- a row that tells an unsupported directive, by its rule's index and its reason's number
 abbrev pub passing_over : ℕ → ℕ → Row → Row
@@ -492,13 +489,13 @@ same_report r seen unsupported =
     && eqb r.unsupported.reason unsupported.reason
 
 -- a place in phase 2, or none
-abbrev pub same_place : OptionPlace → OptionU64 → Bool
-same_place OptionPlace.None OptionU64.None = true
-same_place OptionPlace.None (OptionU64.Some n) = false
-same_place (OptionPlace.Some p) OptionU64.None = false
-same_place (OptionPlace.Some p) (OptionU64.Some n) = eqb p.phase 2 && eqb p.position n
+abbrev pub same_place : Option Place → Option ℕ → Bool
+same_place None None = true
+same_place None (Some n) = false
+same_place (Some p) None = false
+same_place (Some p) (Some n) = eqb p.phase 2 && eqb p.position n
 
-abbrev pub same_intervention : Intervention → ℕ → List ℕ → OptionU64 → OptionU64 → Bool → Bool
+abbrev pub same_intervention : Intervention → ℕ → List ℕ → Option ℕ → Option ℕ → Bool → Bool
 same_intervention i code ids url log dropped =
     eqb i.status code
     && same (intervention_ids i) ids
@@ -508,13 +505,13 @@ same_intervention i code ids url log dropped =
     && same_place i.metadata.msg log
     && eq_bool i.drop dropped
 
-unfoldable pub same_stop : OptionIntervention → Stop → Bool
-same_stop OptionIntervention.None none = true
-same_stop OptionIntervention.None (stopped code ids) = false
-same_stop OptionIntervention.None (stopped_with code ids url log dropped) = false
-same_stop (OptionIntervention.Some i) none = false
-same_stop (OptionIntervention.Some i) (stopped code ids) = same_intervention i code ids OptionU64.None OptionU64.None false
-same_stop (OptionIntervention.Some i) (stopped_with code ids url log dropped) = same_intervention i code ids url log dropped
+unfoldable pub same_stop : Option Intervention → Stop → Bool
+same_stop None none = true
+same_stop None (stopped code ids) = false
+same_stop None (stopped_with code ids url log dropped) = false
+same_stop (Some i) none = false
+same_stop (Some i) (stopped code ids) = same_intervention i code ids None None false
+same_stop (Some i) (stopped_with code ids url log dropped) = same_intervention i code ids url log dropped
 
 abbrev pub told_number : List UnsupportedReason → ℕ
 told_number [] = 0
@@ -527,7 +524,7 @@ all_told (t ∷ ts) = eqb (told_number (reasons_of (directive_of (ascii t.direct
 -- whether each of some ids is removed, or is not
 abbrev pub all_gone : Controls → Bool → List ℕ → Bool
 all_gone c gone [] = true
-all_gone c gone (n ∷ ns) = eq_bool (is_removed c.ranges (OptionU64.Some n)) gone && all_gone c gone ns
+all_gone c gone (n ∷ ns) = eq_bool (is_removed c.ranges (Some n)) gone && all_gone c gone ns
 
 -- the same ranges in the same order; those that a row says, if it does
 abbrev pub same_ranges : List RuleIdRange → List RuleIdRange → Bool

@@ -1,13 +1,12 @@
 -- Manual and Rust side by side: each pair of docs/DIFFERENCES.md at its smallest case, what either side gives there, and cases where
 -- the two agree. One table.
-use Rattle.std.specs.Prelude.{ℕ, ◌≡◌, refl, List, [], ◌∷◌, Bool, true, false, cond, ◌&&◌, length, eqb}
+use Rattle.std.specs.Prelude.{ℕ, ◌≡◌, refl, List, [], ◌∷◌, Bool, true, false, cond, ◌&&◌, length, eqb, Option, Some, None}
 use Prim.Native.String.{String}
+use Rattle.reading.specs.declared.Intervention.{Intervention}
 use Rattle.reading.specs.declared.RuleEngineMode.{RuleEngineMode}
 use Rattle.reading.specs.declared.Verdict.{Verdict}
-use Rattle.reading.specs.declared.OptionU64.{OptionU64}
 use Rattle.reading.specs.declared.DisruptiveOutcome.{DisruptiveOutcome}
 use Rattle.reading.specs.declared.FlowOutcome.{FlowOutcome}
-use Rattle.reading.specs.declared.OptionIntervention.{OptionIntervention}
 use Rattle.reading.specs.Numbers.{flow_kind}
 use Rattle.reading.specs.Text.{ascii, same, trim_start, before, trim_end, trim, fold, all_digits, value_from, digits, without_plus, number_of, index_of, on_first, split_on, one_id, ids_to, ids_from, id_part, any_bad, ranges_in}
 use Rattle.reading.specs.Directive.{is_supported, ranges_of, range_count, directive_of}
@@ -81,17 +80,17 @@ abbrev acting : List Act → List Placed
 acting acts = actions_at (one acts) 0
 
 -- a transaction that is allowed, one that is stopped, and one that is neither
-abbrev entered : Bool → OptionIntervention → Transaction
+abbrev entered : Bool → Option Intervention → Transaction
 entered allowed i = record { controls = no_controls; allowed = allowed; intervention = i; ids = 0; data-entries = 0 }
 
 abbrev allowed : Transaction
-allowed = entered true OptionIntervention.None
+allowed = entered true None
 
 abbrev stopped : Transaction
-stopped = entered false (OptionIntervention.Some (unit_intervention (one (deny ∷ [])) (0 ∷ [])))
+stopped = entered false (Some (unit_intervention (one (deny ∷ [])) (0 ∷ [])))
 
 abbrev untouched : Transaction
-untouched = entered false OptionIntervention.None
+untouched = entered false None
 
 -- Q13: how many links are held after the removed closing rule 42
 abbrev held_after_removed : Reading → ℕ
@@ -107,14 +106,14 @@ abbrev link_removes : Given
 link_removes = given (link 41 (ctl "ruleRemoveById" "43" ∷ []) ∷ rule 42 [] ∷ rule 43 [] ∷ []) []
 
 abbrev removes43 : Controls → Bool
-removes43 c = is_removed c.ranges (OptionU64.Some 43)
+removes43 c = is_removed c.ranges (Some 43)
 
 -- the next index after a rule at 1 with these actions that closes a chain
 abbrev next_by : (List Placed → FlowOutcome) → List Act → ℕ
 next_by flow acts = after_flow (one acts) 2 (flow (acting acts))
 
 -- 30 skipAfter 32; 31; 32; a no-id rule; 33: where a name leads from the index after 30. 5 is the rule count, where the rest is passed.
-abbrev leads : (Given → List ℕ → OptionU64) → List Named → String → ℕ
+abbrev leads : (Given → List ℕ → Option ℕ) → List Named → String → ℕ
 leads target ms name =
     let g = given (rule 30 [] ∷ rule 31 [] ∷ rule 32 [] ∷ no_id [] ∷ rule 33 [] ∷ []) ms in
     jump_from g 1 (target g (ascii name))
@@ -133,8 +132,8 @@ differences =
     ∷ alike_tests "skipAfter back" (manual_jumps 0 1) (jumps rust 0 1) false
     -- status of deny (Q1, C15; Q2)
     ∷ numbers "deny, status 406" (manual_status (last_status (acting (deny ∷ status 406 ∷ [])))) 406 (rust_status (last_status (acting (deny ∷ status 406 ∷ [])))) 403
-    ∷ numbers "deny, status 200" (manual_status (OptionU64.Some 200)) 200 (rust_status (OptionU64.Some 200)) 403
-    ∷ alike "deny" (manual_status OptionU64.None) (rust_status OptionU64.None) 403
+    ∷ numbers "deny, status 200" (manual_status (Some 200)) 200 (rust_status (Some 200)) 403
+    ∷ alike "deny" (manual_status None) (rust_status None) 403
     -- a removed closing rule of an open chain (Q13, C10)
     ∷ tests "removed closing rule" manual_breaks true rust_breaks false
     ∷ numbers "removed closing rule" (held_after_removed manual) 0 (held_after_removed rust) 1
@@ -152,11 +151,11 @@ differences =
     ∷ alike_tests "pass, On" (manual_acts RuleEngineMode.On DisruptiveOutcome.Pass) (rust_acts RuleEngineMode.On DisruptiveOutcome.Pass) false
     -- status of redirect (Q5)
     ∷ numbers "redirect, status 301" (manual_redirect_status (last_status (acting (redirect "a" ∷ status 301 ∷ [])))) 301 (rust_redirect_status (last_status (acting (redirect "a" ∷ status 301 ∷ [])))) 302
-    ∷ numbers "redirect, status 303" (manual_redirect_status (OptionU64.Some 303)) 303 (rust_redirect_status (OptionU64.Some 303)) 302
-    ∷ numbers "redirect, status 307" (manual_redirect_status (OptionU64.Some 307)) 307 (rust_redirect_status (OptionU64.Some 307)) 302
-    ∷ alike "redirect, status 302" (manual_redirect_status (OptionU64.Some 302)) (rust_redirect_status (OptionU64.Some 302)) 302
-    ∷ alike "redirect, status 308" (manual_redirect_status (OptionU64.Some 308)) (rust_redirect_status (OptionU64.Some 308)) 302
-    ∷ alike "redirect" (manual_redirect_status OptionU64.None) (rust_redirect_status OptionU64.None) 302
+    ∷ numbers "redirect, status 303" (manual_redirect_status (Some 303)) 303 (rust_redirect_status (Some 303)) 302
+    ∷ numbers "redirect, status 307" (manual_redirect_status (Some 307)) 307 (rust_redirect_status (Some 307)) 302
+    ∷ alike "redirect, status 302" (manual_redirect_status (Some 302)) (rust_redirect_status (Some 302)) 302
+    ∷ alike "redirect, status 308" (manual_redirect_status (Some 308)) (rust_redirect_status (Some 308)) 302
+    ∷ alike "redirect" (manual_redirect_status None) (rust_redirect_status None) 302
     -- ctl of a link (Q18): after 41, and where the chain closes
     ∷ tests "ctl of a link" (removes43 (manual_matched link_removes 0 no_controls)) true (removes43 (rust_link link_removes 0 no_controls)) false
     ∷ alike_tests "ctl of a closed chain" (removes43 (manual_matched link_removes 1 (manual_matched link_removes 0 no_controls))) (removes43 (rust_closed link_removes (0 ∷ 1 ∷ []) (rust_link link_removes 0 no_controls))) true
@@ -180,7 +179,7 @@ differences =
     -- comma lists in ruleRemoveById
     ∷ numbers "1,2" (range_count (manual_removal (ascii "1,2"))) 0 (range_count (rust_removal (ascii "1,2"))) 2
     ∷ alike "1" (range_count (manual_removal (ascii "1"))) (range_count (rust_removal (ascii "1"))) 1
-    ∷ alike_tests "40-43" (is_removed (ranges_of (manual_removal (ascii "40-43"))) (OptionU64.Some 43)) (is_removed (ranges_of (rust_removal (ascii "40-43"))) (OptionU64.Some 43)) true
+    ∷ alike_tests "40-43" (is_removed (ranges_of (manual_removal (ascii "40-43"))) (Some 43)) (is_removed (ranges_of (rust_removal (ascii "40-43"))) (Some 43)) true
     ∷ alike_tests "43-40" (is_supported (manual_removal (ascii "43-40"))) (is_supported (rust_removal (ascii "43-40"))) false
     ∷ alike_tests "no id" (is_supported (manual_removal [])) (is_supported (rust_removal [])) false
     -- a rule id as the name of a skipAfter

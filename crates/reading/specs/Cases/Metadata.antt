@@ -1,7 +1,6 @@
 -- 01: "Metadata keeps the last of each kind": the metadata of an intervention, field by field, as one table.
-use Rattle.std.specs.Prelude.{ℕ, ◌≡◌, refl, List, [], ◌∷◌, Bool, true, false, ◌&&◌, eqb}
-use Rattle.reading.specs.declared.OptionU64.{OptionU64}
-use Rattle.reading.specs.declared.OptionIntervention.{OptionIntervention}
+use Rattle.std.specs.Prelude.{ℕ, ◌≡◌, refl, List, [], ◌∷◌, Bool, true, false, ◌&&◌, eqb, Option, Some, None}
+use Rattle.reading.specs.declared.Intervention.{Intervention}
 use Rattle.reading.specs.declared.RuleMetadata.{RuleMetadata}
 use Rattle.reading.specs.Numbers.{present_number, number_or_zero}
 use Rattle.reading.specs.Controls.{is_removed, bad_controls}
@@ -17,16 +16,16 @@ use Rattle.reading.specs.Cases.Build.{deny, msg, logdata, rev, ver, id, severity
 -- what a row states: the numbers, and the places by their positions
 pub record Kept : Type 0 where
   rules : List Written
-  id : OptionU64
-  msg : OptionU64
-  logdata : OptionU64
-  rev : OptionU64
-  ver : OptionU64
-  severity : OptionU64
-  maturity : OptionU64
-  accuracy : OptionU64
+  id : Option ℕ
+  msg : Option ℕ
+  logdata : Option ℕ
+  rev : Option ℕ
+  ver : Option ℕ
+  severity : Option ℕ
+  maturity : Option ℕ
+  accuracy : Option ℕ
 
-abbrev same_number : OptionU64 → OptionU64 → Bool
+abbrev same_number : Option ℕ → Option ℕ → Bool
 same_number a b = eqb (present_number a) (present_number b) && eqb (number_or_zero a) (number_or_zero b)
 
 abbrev keeps : Kept → RuleMetadata → Bool
@@ -41,19 +40,19 @@ keeps k m =
     && same_number m.accuracy k.accuracy
 
 -- of the intervention that is found after the call
-abbrev keeps_in : Kept → OptionIntervention → Bool
-keeps_in k OptionIntervention.None = false
-keeps_in k (OptionIntervention.Some i) = keeps k i.metadata
+abbrev keeps_in : Kept → Option Intervention → Bool
+keeps_in k None = false
+keeps_in k (Some i) = keeps k i.metadata
 
 pub all_kept : List Kept → Bool
 all_kept [] = true
 all_kept (k ∷ ks) = keeps_in k (outcome_of (call k.rules [])).transaction.intervention && all_kept ks
 
-abbrev some : ℕ → OptionU64
-some n = OptionU64.Some n
+abbrev some : ℕ → Option ℕ
+some n = Some n
 
-abbrev nothing : OptionU64
-nothing = OptionU64.None
+abbrev nothing : Option ℕ
+nothing = None
 
 -- each of the eight twice, at positions 0 to 15, and then a deny
 abbrev twice : List Act

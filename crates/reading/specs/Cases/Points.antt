@@ -1,17 +1,13 @@
 -- The open points of docs/DECISIONS.md at their smallest telling inputs, as one table. Rows are named after the decision.
-use Rattle.std.specs.Prelude.{ℕ, ◌≡◌, refl, List, [], ◌∷◌, ◌++◌, map, true, false, take, replicate}
+use Rattle.std.specs.Prelude.{ℕ, ◌≡◌, refl, List, [], ◌∷◌, ◌++◌, map, true, false, take, replicate, Some, None}
 use Prim.Native.String.{String}
 use Rattle.reading.specs.declared.RuleEngineMode.{RuleEngineMode}
 use Rattle.reading.specs.declared.BodyAccess.{BodyAccess}
 use Rattle.reading.specs.declared.BodyProcessor.{BodyProcessor}
-use Rattle.reading.specs.declared.ModeSetting.{ModeSetting}
-use Rattle.reading.specs.declared.AccessSetting.{AccessSetting}
-use Rattle.reading.specs.declared.ProcessorSetting.{ProcessorSetting}
 use Rattle.reading.specs.declared.CallSettings.{CallSettings}
 use Rattle.reading.specs.declared.Rule.{Rule}
 use Rattle.reading.specs.declared.Action.{Action}
 use Rattle.reading.specs.declared.Marker.{Marker}
-use Rattle.reading.specs.declared.OptionU64.{OptionU64}
 use Rattle.reading.specs.Lists.{gather}
 use Rattle.reading.specs.Text.{largest, same, trim_start, before, trim_end, trim, fold, all_digits, value_from, digits, without_plus, number_of, index_of, on_first, split_on, one_id, ids_to, ids_from, id_part, any_bad, ranges_in}
 use Rattle.reading.specs.Directive.{directive_of}
@@ -32,7 +28,7 @@ use Rattle.reading.specs.Cases.Build.{apart, deny, block, pass, allow, drop, cha
 -- WHAT IS HELD AT ENTRY
 
 abbrev in_mode : RuleEngineMode → Controls
-in_mode m = record { mode = ModeSetting.Set m; ranges = []; targets = []; access = AccessSetting.Unset; processor = ProcessorSetting.Unset }
+in_mode m = record { mode = Some m; ranges = []; targets = []; access = None; processor = None }
 
 -- A CALL WITH OTHER RECORDS OR LISTS
 
@@ -187,11 +183,11 @@ points =
     -- ids repeat
     ∷ row "D30" (call (rule 1 [] ∷ rule 1 [] ∷ []) []) (record { visits = matched 0 ∷ matched 1 ∷ []; ids = 1 ∷ 1 ∷ []; data-entries = entry 1 0 ∷ entry 1 1 ∷ []; allowed = false; stop = none })
     -- the rule's id and the id action's
-    ∷ row "D31a" (call ((record { id = OptionU64.Some 10; link = 0; outcome = 2; acts = (id 11 ∷ deny ∷ []) }) ∷ []) []) (record { visits = matched 0 ∷ []; ids = 10 ∷ []; data-entries = entry 10 0 ∷ []; allowed = false; stop = stopped 403 (10 ∷ 11 ∷ []) })
+    ∷ row "D31a" (call ((record { id = Some 10; link = 0; outcome = 2; acts = (id 11 ∷ deny ∷ []) }) ∷ []) []) (record { visits = matched 0 ∷ []; ids = 10 ∷ []; data-entries = entry 10 0 ∷ []; allowed = false; stop = stopped 403 (10 ∷ 11 ∷ []) })
     ∷ row "D31b" (call (no_id (id 11 ∷ deny ∷ []) ∷ []) []) (record { visits = matched 0 ∷ []; ids = []; data-entries = no_id_entry 0 ∷ []; allowed = false; stop = stopped 403 (11 ∷ []) })
-    ∷ row "D31c" (call ((record { id = OptionU64.Some 20; link = 1; outcome = 2; acts = (deny ∷ []) }) ∷ no_id [] ∷ []) []) (record { visits = matched 0 ∷ matched 1 ∷ []; ids = 20 ∷ []; data-entries = entry 20 0 ∷ entry 20 1 ∷ []; allowed = false; stop = stopped 403 [] })
+    ∷ row "D31c" (call ((record { id = Some 20; link = 1; outcome = 2; acts = (deny ∷ []) }) ∷ no_id [] ∷ []) []) (record { visits = matched 0 ∷ matched 1 ∷ []; ids = 20 ∷ []; data-entries = entry 20 0 ∷ entry 20 1 ∷ []; allowed = false; stop = stopped 403 [] })
     -- the last id action counts
-    ∷ row "D31d" (call ((record { id = OptionU64.Some 10; link = 0; outcome = 2; acts = (id 11 ∷ id 12 ∷ deny ∷ []) }) ∷ []) []) (record { visits = matched 0 ∷ []; ids = 10 ∷ []; data-entries = entry 10 0 ∷ []; allowed = false; stop = stopped 403 (10 ∷ 12 ∷ []) })
+    ∷ row "D31d" (call ((record { id = Some 10; link = 0; outcome = 2; acts = (id 11 ∷ id 12 ∷ deny ∷ []) }) ∷ []) []) (record { visits = matched 0 ∷ []; ids = 10 ∷ []; data-entries = entry 10 0 ∷ []; allowed = false; stop = stopped 403 (10 ∷ 12 ∷ []) })
     -- a member without an id takes the starter's
     ∷ row "D32" (call (link 20 [] ∷ no_id [] ∷ []) []) (record { visits = matched 0 ∷ matched 1 ∷ []; ids = 20 ∷ []; data-entries = entry 20 0 ∷ entry 20 1 ∷ []; allowed = false; stop = none })
     -- outcome 1 gives no data entry
@@ -223,22 +219,22 @@ points =
     ∷ row "D39a" (call (rule 10 (deny ∷ pass ∷ []) ∷ []) []) (record { visits = matched 0 ∷ []; ids = 10 ∷ []; data-entries = entry 10 0 ∷ []; allowed = false; stop = none })
     ∷ row "D39b" (call (rule 10 (allow ∷ pass ∷ []) ∷ []) []) (record { visits = matched 0 ∷ []; ids = 10 ∷ []; data-entries = entry 10 0 ∷ []; allowed = false; stop = none })
     -- the address of a redirect
-    ∷ row "D40a" (call (rule 10 (redirect "a" ∷ redirect "b" ∷ []) ∷ []) []) (record { visits = matched 0 ∷ []; ids = 10 ∷ []; data-entries = entry 10 0 ∷ []; allowed = false; stop = stopped_with 302 (10 ∷ []) (OptionU64.Some 2) OptionU64.None false })
+    ∷ row "D40a" (call (rule 10 (redirect "a" ∷ redirect "b" ∷ []) ∷ []) []) (record { visits = matched 0 ∷ []; ids = 10 ∷ []; data-entries = entry 10 0 ∷ []; allowed = false; stop = stopped_with 302 (10 ∷ []) (Some 2) None false })
     ∷ row "D40b" (call (rule 10 (redirect "a" ∷ deny ∷ []) ∷ []) []) (record { visits = matched 0 ∷ []; ids = 10 ∷ []; data-entries = entry 10 0 ∷ []; allowed = false; stop = stopped 403 (10 ∷ []) })
-    ∷ row "D40c" (call (rule 10 (deny ∷ redirect "a" ∷ []) ∷ []) []) (record { visits = matched 0 ∷ []; ids = 10 ∷ []; data-entries = entry 10 0 ∷ []; allowed = false; stop = stopped_with 302 (10 ∷ []) (OptionU64.Some 2) OptionU64.None false })
+    ∷ row "D40c" (call (rule 10 (deny ∷ redirect "a" ∷ []) ∷ []) []) (record { visits = matched 0 ∷ []; ids = 10 ∷ []; data-entries = entry 10 0 ∷ []; allowed = false; stop = stopped_with 302 (10 ∷ []) (Some 2) None false })
     -- drop
-    ∷ row "D40d" (call (rule 10 (drop ∷ []) ∷ []) []) (record { visits = matched 0 ∷ []; ids = 10 ∷ []; data-entries = entry 10 0 ∷ []; allowed = false; stop = stopped_with 444 (10 ∷ []) OptionU64.None OptionU64.None true })
+    ∷ row "D40d" (call (rule 10 (drop ∷ []) ∷ []) []) (record { visits = matched 0 ∷ []; ids = 10 ∷ []; data-entries = entry 10 0 ∷ []; allowed = false; stop = stopped_with 444 (10 ∷ []) None None true })
     -- block has the caller's default status
     ∷ row "D41" (call (rule 10 (block ∷ status 406 ∷ []) ∷ []) []) (record { visits = matched 0 ∷ []; ids = 10 ∷ []; data-entries = entry 10 0 ∷ []; allowed = false; stop = stopped 500 (10 ∷ []) })
     -- a position counts in the whole action list
-    ∷ row "D42" (call (rule 10 [] ∷ rule 11 (redirect "a" ∷ []) ∷ []) []) (record { visits = matched 0 ∷ matched 1 ∷ []; ids = 10 ∷ 11 ∷ []; data-entries = entry 10 0 ∷ entry 11 1 ∷ []; allowed = false; stop = stopped_with 302 (11 ∷ []) (OptionU64.Some 2) OptionU64.None false })
+    ∷ row "D42" (call (rule 10 [] ∷ rule 11 (redirect "a" ∷ []) ∷ []) []) (record { visits = matched 0 ∷ matched 1 ∷ []; ids = 10 ∷ 11 ∷ []; data-entries = entry 10 0 ∷ entry 11 1 ∷ []; allowed = false; stop = stopped_with 302 (11 ∷ []) (Some 2) None false })
     -- the last body access and processor win
-    ∷ settling (AccessSetting.Set BodyAccess.Off) (ProcessorSetting.Set BodyProcessor.Json) ModeSetting.Unset
+    ∷ settling (Some BodyAccess.Off) (Some BodyProcessor.Json) None
     (row "last-wins" (call (rule 10 (ctl "requestBodyAccess" "On" ∷ ctl "requestBodyProcessor" "XML" ∷ ctl "requestBodyAccess" "off" ∷ ctl "requestBodyProcessor" "json" ∷ []) ∷ []) [])
     (record { visits = matched 0 ∷ []; ids = 10 ∷ []; data-entries = entry 10 0 ∷ []; allowed = false; stop = none }))
     -- the log is the starter's msg
     ∷ row "D44a" (call (link 1 (deny ∷ []) ∷ rule 2 (msg "x" ∷ []) ∷ []) []) (record { visits = matched 0 ∷ matched 1 ∷ []; ids = 1 ∷ []; data-entries = entry 1 0 ∷ entry 2 1 ∷ []; allowed = false; stop = stopped 403 (2 ∷ 1 ∷ []) })
-    ∷ row "D44b" (call (link 1 (msg "w" ∷ deny ∷ msg "x" ∷ []) ∷ rule 2 [] ∷ []) []) (record { visits = matched 0 ∷ matched 1 ∷ []; ids = 1 ∷ []; data-entries = entry 1 0 ∷ entry 2 1 ∷ []; allowed = false; stop = stopped_with 403 (2 ∷ 1 ∷ []) OptionU64.None (OptionU64.Some 3) false })
+    ∷ row "D44b" (call (link 1 (msg "w" ∷ deny ∷ msg "x" ∷ []) ∷ rule 2 [] ∷ []) []) (record { visits = matched 0 ∷ matched 1 ∷ []; ids = 1 ∷ []; data-entries = entry 1 0 ∷ entry 2 1 ∷ []; allowed = false; stop = stopped_with 403 (2 ∷ 1 ∷ []) None (Some 3) false })
     -- the latest record of a name decides
     ∷ row "D45a" (call (rule 30 (skip_after "A" ∷ []) ∷ rule 31 [] ∷ rule 32 [] ∷ []) (marker "A" 2 ∷ marker "A" 0 ∷ [])) (record { visits = matched 0 ∷ []; ids = 30 ∷ []; data-entries = entry 30 0 ∷ []; allowed = false; stop = none })
     -- an empty name is a name

@@ -1,13 +1,9 @@
 -- Request A.6 at its smallest telling inputs: the merged form of ranges, adding to it, and what is answered. One table.
-use Rattle.std.specs.Prelude.{ℕ, ◌≡◌, refl, List, [], ◌∷◌, ◌++◌, Bool, true, false, length, replicate, eqb}
+use Rattle.std.specs.Prelude.{ℕ, ◌≡◌, refl, List, [], ◌∷◌, ◌++◌, Bool, true, false, length, replicate, eqb, Some}
 use Rattle.reading.specs.declared.RuleEngineMode.{RuleEngineMode}
 use Rattle.reading.specs.declared.BodyAccess.{BodyAccess}
 use Rattle.reading.specs.declared.BodyProcessor.{BodyProcessor}
-use Rattle.reading.specs.declared.AccessSetting.{AccessSetting}
-use Rattle.reading.specs.declared.ModeSetting.{ModeSetting}
-use Rattle.reading.specs.declared.ProcessorSetting.{ProcessorSetting}
 use Rattle.reading.specs.declared.RuleIdRange.{RuleIdRange}
-use Rattle.reading.specs.declared.OptionU64.{OptionU64}
 use Rattle.reading.specs.Numbers.{mode_number, access_number, processor_setting_number}
 use Rattle.reading.specs.Text.{largest, same}
 use Rattle.reading.specs.Ranges.{is_merged, add_range, add_ranges}
@@ -114,11 +110,11 @@ sums =
 
 abbrev targets : ℕ → List RuleIdRange → Controls
 targets count rs = record {
-  mode = ModeSetting.Set RuleEngineMode.DetectionOnly;
+  mode = Some RuleEngineMode.DetectionOnly;
   ranges = rs;
   targets = replicate count (record { phase = 1; position = 4 });
-  access = AccessSetting.Set BodyAccess.Off;
-  processor = ProcessorSetting.Set BodyProcessor.Json;
+  access = Some BodyAccess.Off;
+  processor = Some BodyProcessor.Json;
 }
 
 -- the answer, and the ranges that are then held
@@ -159,8 +155,8 @@ abbrev questions : List Bool
 questions =
     eqb (ask_mode RuleEngineMode.On touching).answer 3
     ∷ eqb (mode_number (ask_mode RuleEngineMode.On touching).value) 0
-    ∷ eqb (ask_removed touching (OptionU64.Some 1)).answer 3
-    ∷ eq_bool (ask_removed touching (OptionU64.Some 1)).value false
+    ∷ eqb (ask_removed touching (Some 1)).answer 3
+    ∷ eq_bool (ask_removed touching (Some 1)).value false
     ∷ eqb (ask_target_count touching).answer 3
     ∷ eqb (ask_target_count touching).value 0
     ∷ eqb (ask_target touching 0).answer 3
@@ -168,13 +164,13 @@ questions =
     ∷ eqb (access_number (ask_access touching).value) 0
     ∷ eqb (ask_processor touching).answer 3
     ∷ eqb (processor_setting_number (ask_processor touching).value) 0
-    ∷ eqb (ask_removed (holding (range 5 4 ∷ [])) (OptionU64.Some 5)).answer 3
+    ∷ eqb (ask_removed (holding (range 5 4 ∷ [])) (Some 5)).answer 3
     -- in the form both ends of a range are removed, and no id between two
-    ∷ eqb (ask_removed (holding (range 1 2 ∷ range 4 5 ∷ [])) (OptionU64.Some 4)).answer 0
-    ∷ eq_bool (ask_removed (holding (range 1 2 ∷ range 4 5 ∷ [])) (OptionU64.Some 4)).value true
-    ∷ eq_bool (ask_removed (holding (range 1 2 ∷ range 4 5 ∷ [])) (OptionU64.Some 3)).value false
-    ∷ eq_bool (ask_removed (holding (one largest ∷ [])) (OptionU64.Some largest)).value true
-    ∷ eq_bool (ask_removed (holding (one largest ∷ [])) (OptionU64.Some last)).value false
+    ∷ eqb (ask_removed (holding (range 1 2 ∷ range 4 5 ∷ [])) (Some 4)).answer 0
+    ∷ eq_bool (ask_removed (holding (range 1 2 ∷ range 4 5 ∷ [])) (Some 4)).value true
+    ∷ eq_bool (ask_removed (holding (range 1 2 ∷ range 4 5 ∷ [])) (Some 3)).value false
+    ∷ eq_bool (ask_removed (holding (one largest ∷ [])) (Some largest)).value true
+    ∷ eq_bool (ask_removed (holding (one largest ∷ [])) (Some last)).value false
     ∷ []
 
 pub range-table : all_true (forms ++ sums ++ additions ++ questions) ≡ true

@@ -1,13 +1,9 @@
 -- The directive reader, the questions to the controls, additions to them and lent records at their open points, and the numbers of
 -- what an action comes to, as tables.
-use Rattle.std.specs.Prelude.{ℕ, ◌≡◌, refl, List, [], ◌∷◌, map, Bool, true, false, ◌&&◌, length, replicate, eqb}
+use Rattle.std.specs.Prelude.{ℕ, ◌≡◌, refl, List, [], ◌∷◌, map, Bool, true, false, ◌&&◌, length, replicate, eqb, Some, None}
 use Rattle.reading.specs.declared.RuleEngineMode.{RuleEngineMode}
 use Rattle.reading.specs.declared.BodyAccess.{BodyAccess}
-use Rattle.reading.specs.declared.ModeSetting.{ModeSetting}
-use Rattle.reading.specs.declared.AccessSetting.{AccessSetting}
-use Rattle.reading.specs.declared.ProcessorSetting.{ProcessorSetting}
 use Rattle.reading.specs.declared.Place.{Place}
-use Rattle.reading.specs.declared.OptionU64.{OptionU64}
 use Rattle.reading.specs.declared.Action.{Action}
 use Rattle.reading.specs.Numbers.{mode_number, access_number, read_number, read_value, disruptive_kind, disruptive_value, flow_kind, flow_value}
 use Rattle.reading.specs.Text.{ascii, same, trim_start, before, trim_end, trim, fold, all_digits, value_from, digits, without_plus, number_of, index_of, on_first, split_on, one_id, ids_to, ids_from, id_part, any_bad, ranges_in}
@@ -108,26 +104,26 @@ place position = record { phase = 1; position = position }
 
 abbrev holding : ℕ → ℕ → Controls
 holding ranges targets = record {
-  mode = ModeSetting.Set RuleEngineMode.DetectionOnly;
+  mode = Some RuleEngineMode.DetectionOnly;
   ranges = apart ranges;
   targets = replicate targets (place 4);
-  access = AccessSetting.Set BodyAccess.Off;
-  processor = ProcessorSetting.Unset;
+  access = Some BodyAccess.Off;
+  processor = None;
 }
 
 -- D9: every question meets the whole of 3
 abbrev questions : List Bool
 questions =
-    eqb (ask_removed (holding 0 65) (OptionU64.Some 1)).answer 3
+    eqb (ask_removed (holding 0 65) (Some 1)).answer 3
     ∷ eqb (ask_mode RuleEngineMode.On (holding 0 65)).answer 3
     ∷ eqb (ask_target_count (holding 257 0)).answer 3
     ∷ eqb (ask_target (holding 257 1) 0).answer 3
     ∷ eqb (ask_access (holding 257 0)).answer 3
     ∷ eqb (ask_mode RuleEngineMode.On (holding 256 64)).answer 0
     ∷ eqb (mode_number (ask_mode RuleEngineMode.On (holding 256 64)).value) 1
-    ∷ eq_bool (ask_removed (holding 1 0) (OptionU64.Some 2000)).value true
-    ∷ eq_bool (ask_removed (holding 1 0) (OptionU64.Some 2001)).value false
-    ∷ eq_bool (ask_removed (holding 1 0) OptionU64.None).value false
+    ∷ eq_bool (ask_removed (holding 1 0) (Some 2000)).value true
+    ∷ eq_bool (ask_removed (holding 1 0) (Some 2001)).value false
+    ∷ eq_bool (ask_removed (holding 1 0) None).value false
     ∷ eqb (ask_target_count (holding 0 64)).value 64
     ∷ eqb (access_number (ask_access (holding 0 0)).value) 1
     ∷ []

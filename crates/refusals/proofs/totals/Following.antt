@@ -12,10 +12,9 @@ use Rattle.reading.specs.declared.Rule.{Rule}
 use Rattle.reading.specs.Lists.{total}
 use Rattle.reading.specs.Records.{rule_from, rule_list}
 use Rattle.lists.proofs.RecordLaws.{drop-rules, rules-end}
-use Rattle.lists.proofs.Slices.{front_length}
 use Rattle.refusals.specs.Totals.{rule_weight}
 use Rattle.refusals.specs.Totals.{begin_of, end_of, following}
-use Rattle.apply.proofs.codes.TotalLaws.{clip-take, total-take-le, total-take-mono, total-between}
+use Rattle.apply.proofs.codes.TotalLaws.{total-take-le, total-take-mono, total-between}
 
 -- a rule that begins before an end, and one that does not
 module _ (n end : ℕ) (r : Rule) (rs : List Rule) where
@@ -32,9 +31,6 @@ pub record Follows (n : ℕ) (rules : List ℕ) (end i : ℕ) : Type 0 where
   pub same : following n 0 (rule_list rules) ≡ following n end (drop i (rule_list rules))
 
 module _ (n : ℕ) (rules : List ℕ) where
-  pub follows-none : Follows n rules 0 0
-  follows-none = record { within = omega arith; inside = omega arith; same = refl }
-
   module _ (end i : ℕ) (so : Follows n rules end i) where
     module _ (h : i < length rules / 5) (first : ℕ) (is : first ≡ min (get_or rules (5 * i + 3) 0) n) where
       here : following n 0 (rule_list rules) ≡ following n end (rule_from rules i ∷ drop (suc i) (rule_list rules))
@@ -83,13 +79,8 @@ module _ (w : ℕ → ℕ) (codes : List ℕ) where
   pub follow-whole : (rs : List Rule) → following (length codes) 0 rs ≡ true → total (rule_weight w codes) rs ≤ total w codes
   follow-whole rs e = omega (arith, follow-weight 0 rs e)
 
--- the same of the first 4,096 codes
-module _ (w : ℕ → ℕ) (all rules : List ℕ) (held limit : ℕ) where
-  pub follow-fits : held ≤ limit → (n : ℕ) → n ≡ min 4096 (length all) → following n 0 (rule_list rules) ≡ true
-      → total w (take 4096 all) ≤ limit - held
-      → false ≡ ltb limit (held + total (rule_weight w (take 4096 all)) (rule_list rules))
-  follow-fits few n n-is e fits =
-      let front : take n all ≡ take 4096 all = ap (λ (k : ℕ). take k all) n-is ∙ clip-take 4096 all in
-      let size : n ≡ length (take 4096 all) = front_length all n (omega (arith, n-is)) ∙ ap length front in
-      let so = follow-whole w (take 4096 all) (rule_list rules) (ap (λ (k : ℕ). following k 0 (rule_list rules)) (sym size) ∙ e) in
-      sym (le-ltb limit _ (omega (arith, so)))
+-- what is held and all rules stay within a limit that what is held and all actions stay within
+pub follow-fits : (w : ℕ → ℕ) (codes rules : List ℕ) (held limit : ℕ) → held ≤ limit → following (length codes) 0 (rule_list rules) ≡ true
+    → total w codes ≤ limit - held
+    → false ≡ ltb limit (held + total (rule_weight w codes) (rule_list rules))
+follow-fits w codes rules held limit few e fits = sym (le-ltb limit _ (omega (arith, follow-whole w codes (rule_list rules) e)))

@@ -4,8 +4,6 @@ use mathlib.Core.Path.{◌≡◌, refl, sym, ap, ◌∙◌}
 use mathlib.Core.Bool.{Bool, true, false}
 use mathlib.Core.List.{List, [], ◌∷◌, ◌++◌}
 use native.Mathlib.Omega.{arith}
-use mir.Syntax.{w64}
-use mir.Val.{Fits}
 use borrow.Author.Tests.{leb-true}
 use lib.Dec.{leb}
 use lib.ListN.{length, take, drop, get_or}
@@ -46,10 +44,6 @@ module _ (m : ℕ) (codes : List ℕ) (i end : ℕ) (h : i < end) (k : end ≤ l
 
 pub codes-past : (m : ℕ) (codes : List ℕ) (i end : ℕ) → end ≤ i → none_unsupported ≡ first_from m codes i end
 codes-past m codes i end h = let z : end - i ≡ 0 = omega arith in rw z
-
--- a reason's code is a small number
-pub reason-small : (code : ℕ) → is_reason code ≡ true → Fits w64 code
-reason-small code e = let few : code ≤ 7 = leb-true code 7 (and-true (leb 1 code) (leb code 7) e).1 in omega (arith, few)
 
 -- EVERY REASON IS AT LEAST 1
 

@@ -12,7 +12,7 @@ use Rattle.reading.specs.declared.JournalEntry.{JournalEntry}
 use Rattle.reading.specs.declared.Rule.{Rule}
 use Rattle.reading.specs.declared.UnsupportedAt.{UnsupportedAt}
 use Rattle.reading.specs.Lists.{keep, gather}
-use Rattle.reading.specs.Records.{journal_from, journal_list}
+use Rattle.reading.specs.Records.{journal_list}
 use Rattle.reading.specs.Call.{Given, no_rule, rule_at, is_link}
 use Rattle.reading.specs.Replay.{held_after, closed_by, units_from, units_of}
 use Rattle.reading.specs.Report.{none_unsupported, first_or}
@@ -156,15 +156,16 @@ module _ (codes : List ℕ) (rules : List Rule) where
     pub held_all : (pair : UnsupportedAt) (k : ℕ) → length words / 2 ≤ k → Held words pair k → none_unsupported ≡ unsupported_by_codes codes rules (journal_list words)
     held_all pair k h s = sym (ap (first_in s.held) (entries-end words k h)) ∙ s.same
 
-    module _ (pair : UnsupportedAt) (k : ℕ) (h : k < length words / 2) (s : Held words pair k) (rule : Rule) (r : rule ≡ get_or rules (get_or words (2 * k) 0) no_rule) where
+    module _ (pair : UnsupportedAt) (k : ℕ) (h : k < length words / 2) (s : Held words pair k) (index verdict : ℕ)
+        (numbers : (index ≡ get_or words (2 * k) 0) × (verdict ≡ get_or words (2 * k + 1) 0)) (rule : Rule) (r : rule ≡ get_or rules index no_rule) where
       abbrev e : JournalEntry
-      e = journal_from words k
+      e = record { index = index; verdict = verdict }
 
       abbrev es : List JournalEntry
       es = drop (suc k) (journal_list words)
 
       here : first_in s.held (e ∷ es) ≡ unsupported_by_codes codes rules (journal_list words)
-      here = sym (ap (first_in s.held) (drop-entries words k h)) ∙ s.same
+      here = rw (numbers.0, numbers.1) (sym (ap (first_in s.held) (drop-entries words k h)) ∙ s.same)
 
       next : (held : List ℕ) → first_in held es ≡ first_in held (drop (k + 1) (journal_list words))
       next held = ap (λ (n : ℕ). first_in held (drop n (journal_list words))) (sym (add-one k))

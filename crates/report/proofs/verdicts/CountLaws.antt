@@ -28,34 +28,23 @@ module _ (words : List ℕ) where
   abbrev pub Counted : ℕ → ℕ → ℕ → Type 0
   Counted n count k = count + entries_with n (drop k (journal_list words)) ≡ entries_with n (journal_list words)
 
-  -- none before the first
-  pub counted_none : (n : ℕ) → Counted n 0 0
-  unfolding journal_list
-  counted_none n = first (journal_list words)
-    where
-      first : (es : List JournalEntry) → 0 + entries_with n (drop 0 es) ≡ entries_with n es
-      first [] = omega arith
-      first (e ∷ es) = omega arith
+  -- one entry more, whose verdict is v
+  module _ (n count k v : ℕ) (h : k < length words / 2) (is : v ≡ get_or words (2 * k + 1) 0) (c : Counted n count k) where
+    pub counted-more : Counted n (count + cond (eqb v n) 1 0) (k + 1)
+    unfolding journal_list
+    counted-more =
+        let one : k + 1 ≡ suc k = omega arith in
+        let rest = entries_with n (drop (suc k) (journal_list words)) in
+        let e : entries_with n (drop k (journal_list words)) ≡ cond (eqb (get_or words (2 * k + 1) 0) n) 1 0 + rest
+        = ap (entries_with n) (drop-records 2 journal_from words k h) in
+        rw (one, is) (omega (arith, c, e))
 
-  -- one entry more
-  pub counted-more : (n count k : ℕ) → k < length words / 2 → Counted n count k
-      → Counted n (count + cond (eqb (get_or words (2 * k + 1) 0) n) 1 0) (k + 1)
-  unfolding journal_list
-  counted-more n count k h c =
-      let one : k + 1 ≡ suc k = omega arith in
-      let rest = entries_with n (drop (suc k) (journal_list words)) in
-      let e : entries_with n (drop k (journal_list words)) ≡ cond (eqb (get_or words (2 * k + 1) 0) n) 1 0 + rest
-      = ap (entries_with n) (drop-records 2 journal_from words k h) in
-      rw one (omega (arith, c, e))
+    -- one that has that number, and one that has another
+    pub counted-hit : v ≡ n → Counted n (count + 1) (k + 1)
+    counted-hit e = rw (eq-eqb v n e) at counted-more
 
-  -- one entry more that has that number, and one that has another
-  pub counted-hit : (n count k : ℕ) → k < length words / 2 → get_or words (2 * k + 1) 0 ≡ n → Counted n count k → Counted n (count + 1) (k + 1)
-  counted-hit n count k h e c = rw (eq-eqb (get_or words (2 * k + 1) 0) n e) at (counted-more n count k h c)
-
-  pub counted-other : (n count k : ℕ) → k < length words / 2 → (get_or words (2 * k + 1) 0 ≡ n → ⊥) → Counted n count k → Counted n count (k + 1)
-  counted-other n count k h e c =
-      let z : count + 0 ≡ count = omega arith in
-      rw (ne_eqb (get_or words (2 * k + 1) 0) n e, z) at (counted-more n count k h c)
+    pub counted-other : (v ≡ n → ⊥) → Counted n count (k + 1)
+    counted-other e = let z : count + 0 ≡ count = omega arith in rw (ne_eqb v n e, z) at counted-more
 
   -- all after the last
   pub counted-all : (n count k : ℕ) → length words / 2 ≤ k → Counted n count k → count ≡ entries_with n (journal_list words)

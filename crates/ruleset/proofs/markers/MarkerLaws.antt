@@ -1,4 +1,5 @@
 -- Names that are the same byte for byte or not, and one step of the search for the latest marker. Assumes nothing.
+use Rattle.std.specs.Prelude.{Option, Some, None}
 use Prim.Native.Nat.{ℕ, suc, ◌+◌, ◌-◌, ◌*◌, ◌/◌, ◌≤◌, ◌<◌}
 use mathlib.Core.Path.{◌≡◌, refl, ◌∙◌}
 use mathlib.Core.Bool.{Bool, true, false, cond}
@@ -8,7 +9,6 @@ use native.Mathlib.Omega.{arith}
 use lib.ListN.{length, get_or, take, drop, drop_of_length-le}
 use lib.Seq.{drop-cons, take-suc, take_all}
 use Rattle.reading.specs.declared.Marker.{Marker}
-use Rattle.reading.specs.declared.OptionU64.{OptionU64}
 use Rattle.reading.specs.Text.{same, part_of}
 use Rattle.reading.specs.Records.{marker_from, marker_list}
 use Rattle.reading.specs.Markers.{later, marker_position}
@@ -38,22 +38,22 @@ module _ (a b : List ℕ) (j : ℕ) (l : length a ≡ length b) where
 module _ (text name : List ℕ) where
   pub position-last : (ms : List Marker) (m : Marker)
       → marker_position text (ms ++ (m ∷ [])) name
-      ≡ cond (same (part_of text m.name) name) (OptionU64.Some m.position) (marker_position text ms name)
+      ≡ cond (same (part_of text m.name) name) (Some m.position) (marker_position text ms name)
   unfolding marker_position
   position-last [] m = refl
   position-last (x ∷ xs) m =
       rw (position-last xs m) (go (same (part_of text m.name) name))
     where
-      first : OptionU64
-      first = cond (same (part_of text x.name) name) (OptionU64.Some x.position) OptionU64.None
+      first : Option ℕ
+      first = cond (same (part_of text x.name) name) (Some x.position) None
 
-      go : (b : Bool) → later (cond b (OptionU64.Some m.position) (marker_position text xs name)) first
-          ≡ cond b (OptionU64.Some m.position) (later (marker_position text xs name) first)
+      go : (b : Bool) → later (cond b (Some m.position) (marker_position text xs name)) first
+          ≡ cond b (Some m.position) (later (marker_position text xs name) first)
       go true = refl
       go false = refl
 
 -- the position of the name among the first k markers of a lent list
-abbrev pub position_in : List ℕ → List ℕ → List ℕ → ℕ → OptionU64
+abbrev pub position_in : List ℕ → List ℕ → List ℕ → ℕ → Option ℕ
 position_in markers text name k = marker_position text (take k (marker_list markers)) name
 
 module _ (markers text name : List ℕ) where
@@ -62,12 +62,12 @@ module _ (markers text name : List ℕ) where
       let e : length (marker_list markers) ≤ length markers / 3 = omega (arith, length-markers markers) in
       rw (take_all (length markers / 3) (marker_list markers) e)
 
-  pub position-none : (k : ℕ) → k ≡ 0 → position_in markers text name k ≡ OptionU64.None
+  pub position-none : (k : ℕ) → k ≡ 0 → position_in markers text name k ≡ None
   unfolding marker_position
   position-none k e = rw e
 
   position-suc : (k : ℕ) → k < length markers / 3 → position_in markers text name (suc k)
-      ≡ cond (same (part_of text (marker_from markers k).name) name) (OptionU64.Some (get_or markers (3 * k + 2) 0))
+      ≡ cond (same (part_of text (marker_from markers k).name) name) (Some (get_or markers (3 * k + 2) 0))
       (position_in markers text name k)
   position-suc k h =
       let i : k < length (marker_list markers) = omega (arith, length-markers markers) in
@@ -77,7 +77,7 @@ module _ (markers text name : List ℕ) where
   -- the marker before k, which the search has come to: it has another name, or it is the one
   module _ (k : ℕ) (some : 0 < k) (h : k ≤ length markers / 3) where
     position_at : position_in markers text name k
-        ≡ cond (same (part_of text (marker_from markers (k - 1)).name) name) (OptionU64.Some (get_or markers (3 * (k - 1) + 2) 0))
+        ≡ cond (same (part_of text (marker_from markers (k - 1)).name) name) (Some (get_or markers (3 * (k - 1) + 2) 0))
         (position_in markers text name (k - 1))
     position_at =
         let e : suc (k - 1) ≡ k = omega arith in
@@ -88,5 +88,5 @@ module _ (markers text name : List ℕ) where
     position-other other is e = let d = rw is at e in position_at ∙ rw d
 
     pub position-found : (other : List ℕ) → other ≡ part_of text (marker_from markers (k - 1)).name → same other name ≡ true
-        → position_in markers text name k ≡ OptionU64.Some (get_or markers (3 * (k - 1) + 2) 0)
+        → position_in markers text name k ≡ Some (get_or markers (3 * (k - 1) + 2) 0)
     position-found other is e = let d = rw is at e in position_at ∙ rw d

@@ -1,33 +1,26 @@
--- Laws of `index_of`. Assumes nothing.
-use Prim.Native.Nat.{ℕ, suc, ◌≤◌, ◌<◌}
-use mathlib.Core.Path.{◌≡◌}
-use mathlib.Core.Bool.{Bool, true, false, cond}
+-- Where an element stands first. Assumes nothing.
+use Prim.Native.Nat.{ℕ, ◌≤◌}
+use mathlib.Core.Path.{◌≡◌, refl}
+use mathlib.Core.Bool.{Bool, cond, not}
 use mathlib.Core.List.{List, [], ◌∷◌}
 use native.Mathlib.Omega.{arith}
-use borrow.Author.Tests.{eq-eqb, ne_eqb}
-use lib.Dec.{eqb}
-use lib.ListN.{length, drop, get_or, drop_of_length-le}
-use lib.Seq.{drop-cons}
+use lib.Dec.{eqb, ltb}
+use lib.ListN.{length}
+use Rattle.std.specs.List.{position_or_len}
+use Rattle.std.proofs.Common.{Option, Some, None, unwrap_or}
+use Rattle.std.proofs.lemmas.Grind.{common_steps}
+use Rattle.std.proofs.lemmas.List.Sums.{prefix_len-le-length}
 use Rattle.reading.specs.Text.{index_of}
 
-module _ (b : ℕ) (s : List ℕ) (i : ℕ) where
-  pub index-here : i < length s → get_or s i 0 ≡ b → index_of b (drop i s) ≡ 0
-  unfolding index_of
-  index-here h e = rw (drop-cons s i 0 h, eq-eqb (get_or s i 0) b e)
+-- what `position` finds, or the length, is the library's place of the first element that passes
+pub first_place : (test : ℕ → Bool) (s : List ℕ) (n : ℕ) (r : Option ℕ) → length s ≡ n
+    → r ≡ cond (ltb (position_or_len test s) (length s)) (Some (position_or_len test s)) None → unwrap_or r n ≡ position_or_len test s
+first_place test s n r h e = grind (arith, common_steps, prefix_len-le-length (λ x. not (test x)) s)
 
-  pub index-later : i < length s → (get_or s i 0 ≡ b → ⊥) → index_of b (drop i s) ≡ suc (index_of b (drop (suc i) s))
-  unfolding index_of
-  index-later h n = rw (drop-cons s i 0 h, ne_eqb (get_or s i 0) b n)
-
-  pub index-none : length s ≤ i → index_of b (drop i s) ≡ 0
-  unfolding index_of
-  index-none h = rw (drop_of_length-le s h)
+pub index_position : (b : ℕ) (s : List ℕ) → index_of b s ≡ position_or_len (λ x. eqb x b) s
+unfolding index_of
+index_position b [] = refl
+index_position b (x ∷ xs) = grind (arith, index_position b xs)
 
 pub index-le : (b : ℕ) (s : List ℕ) → index_of b s ≤ length s
-unfolding index_of
-index-le b [] = omega arith
-index-le b (x ∷ xs) = go (eqb x b) (index-le b xs)
-  where
-    go : (t : Bool) → index_of b xs ≤ length xs → cond t 0 (suc (index_of b xs)) ≤ suc (length xs)
-    go true h = omega arith
-    go false h = omega arith
+index-le b s = rw (index_position b s) (prefix_len-le-length _ s)

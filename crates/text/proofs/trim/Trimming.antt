@@ -1,26 +1,27 @@
--- Laws of `trim_start` and `trim_end`. Assumes nothing.
-use Prim.Native.Nat.{ℕ, zero, suc, ◌-◌, ◌≤◌, ◌<◌}
-use mathlib.Core.Path.{◌≡◌, refl, sym, ap, ◌∙◌}
-use mathlib.Core.Bool.{true, false}
-use mathlib.Core.List.{List, [], ◌∷◌, ◌++◌}
+-- `trim_start` and `trim_end` by places. Assumes nothing.
+use Prim.Native.Nat.{ℕ, ◌-◌, ◌+◌}
+use mathlib.Core.Path.{◌≡◌, refl, ap, ◌∙◌, sym}
+use mathlib.Core.Bool.{Bool, true, false, cond, not}
+use mathlib.Core.List.{List, [], ◌∷◌, ◌++◌, reverse}
 use native.Mathlib.Omega.{arith}
-use native.Mathlib.Numerals.{sub-one}
-use lib.ListN.{length, take, drop, get_or, drop_of_length-le}
-use lib.Seq.{drop-cons, take-suc}
+use lib.ListN.{length, take, drop}
+use lib.Seq.{take_all}
+use Rattle.std.proofs.lemmas.Grind.{common_steps}
+use Rattle.std.proofs.lemmas.List.{reverse-reverse}
+use Rattle.std.specs.List.{position_or_len}
 use Rattle.reading.specs.Text.{is_blank, trim_start, before, trim_end}
 
-module _ (s : List ℕ) (i : ℕ) where
-  pub start-blank : i < length s → is_blank (get_or s i 0) ≡ true → trim_start (drop i s) ≡ trim_start (drop (suc i) s)
-  unfolding trim_start
-  start-blank h e = rw (drop-cons s i 0 h, e)
+abbrev pub other : ℕ → Bool
+other b = not (is_blank b)
 
-  pub start-other : i < length s → is_blank (get_or s i 0) ≡ false → trim_start (drop i s) ≡ drop i s
-  unfolding trim_start
-  start-other h e = rw (drop-cons s i 0 h, e)
+start_step : (t : Bool) (b n : ℕ) (bs r : List ℕ) → r ≡ drop n bs → cond t r (b ∷ bs) ≡ drop (cond (not (not t)) (1 + n) 0) (b ∷ bs)
+start_step true b n bs r e = grind (arith, common_steps)
+start_step false b n bs r e = refl
 
-  pub start_none : length s ≤ i → trim_start (drop i s) ≡ drop i s
-  unfolding trim_start
-  start_none h = rw (drop_of_length-le s h)
+pub start_at : (s : List ℕ) → trim_start s ≡ drop (position_or_len other s) s
+unfolding trim_start
+start_at [] = refl
+start_at (b ∷ bs) = start_step (is_blank b) b _ bs (trim_start bs) (start_at bs)
 
 end-blank : (xs : List ℕ) (b : ℕ) → is_blank b ≡ true → trim_end (xs ++ b ∷ []) ≡ trim_end xs
 unfolding trim_end before
@@ -33,19 +34,23 @@ end-other [] b e = rw e
 end-other (x ∷ []) b e = rw e
 end-other (x ∷ (y ∷ ys)) b e = ap (before x) (end-other (y ∷ ys) b e)
 
--- the first n bytes are the first n - 1 and one more
-last-split : (s : List ℕ) (n : ℕ) → 0 < n → n ≤ length s → take n s ≡ take (n - 1) s ++ get_or s (n - 1) 0 ∷ []
-last-split s zero p h = absurd (omega arith)
-last-split s (suc m) p h = rw sub-one (take-suc s m 0 h)
+reverse_cons : (x : ℕ) (xs : List ℕ) → reverse (x ∷ xs) ≡ reverse xs ++ x ∷ []
+reverse_cons x xs = grind (arith, common_steps)
 
-module _ (s : List ℕ) (n : ℕ) (p : 0 < n) (h : n ≤ length s) where
-  pub back-blank : is_blank (get_or s (n - 1) 0) ≡ true → trim_end (take n s) ≡ trim_end (take (n - 1) s)
-  back-blank e = ap trim_end (last-split s n p h) ∙ end-blank (take (n - 1) s) (get_or s (n - 1) 0) e
+take_fewer : (l : List ℕ) (x n : ℕ) → take (length (l ++ x ∷ []) - (1 + n)) (l ++ x ∷ []) ≡ take (length l - n) l
+take_fewer l x n = grind (arith, common_steps)
 
-  pub back-other : is_blank (get_or s (n - 1) 0) ≡ false → trim_end (take n s) ≡ take n s
-  back-other e = ap trim_end (last-split s n p h) ∙ (end-other (take (n - 1) s) (get_or s (n - 1) 0) e ∙ sym (last-split s n p h))
+end_step : (t : Bool) (b : ℕ) (r : List ℕ) → is_blank b ≡ t → trim_end (reverse r) ≡ take (length (reverse r) - position_or_len other r) (reverse r)
+    → trim_end (reverse r ++ b ∷ [])
+    ≡ take (length (reverse r ++ b ∷ []) - cond (not (not t)) (1 + position_or_len other r) 0) (reverse r ++ b ∷ [])
+end_step true b r e h = end-blank (reverse r) b e ∙ h ∙ sym (take_fewer (reverse r) b (position_or_len other r))
+end_step false b r e h = end-other (reverse r) b e ∙ sym (take_all _ (reverse r ++ b ∷ []) (omega arith))
 
-pub back_none : (s : List ℕ) (n : ℕ) → n ≤ 0 → trim_end (take n s) ≡ take n s
+end_back : (r : List ℕ) → trim_end (reverse r) ≡ take (length (reverse r) - position_or_len other r) (reverse r)
 unfolding trim_end
-back_none s zero h = refl
-back_none s (suc n) h = absurd (omega arith)
+end_back [] = refl
+end_back (b ∷ r) = rw (reverse_cons b r) (end_step (is_blank b) b r refl (end_back r))
+
+-- without as many bytes at the end as stand behind the last that is no blank
+pub end_at : (s : List ℕ) → trim_end s ≡ take (length s - position_or_len other (reverse s)) s
+end_at s = rw (reverse-reverse s) at (end_back (reverse s))

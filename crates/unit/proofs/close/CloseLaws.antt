@@ -1,11 +1,11 @@
 -- What closing a unit comes to, of what the callees gave. Assumes nothing.
+use Rattle.std.specs.Prelude.{Option}
 use Prim.Native.Nat.{ℕ, min}
 use mathlib.Core.Path.{◌≡◌, ap, ◌∙◌}
 use mathlib.Core.List.{List}
 use lib.ListN.{length, take, get_or}
 use Rattle.reading.specs.declared.CallSettings.{CallSettings}
 use Rattle.reading.specs.declared.Rule.{Rule}
-use Rattle.reading.specs.declared.OptionU64.{OptionU64}
 use Rattle.reading.specs.declared.DisruptiveOutcome.{DisruptiveOutcome}
 use Rattle.reading.specs.declared.FlowOutcome.{FlowOutcome}
 use Rattle.reading.specs.Lists.{over, gather}
@@ -25,7 +25,7 @@ module _ (call : CallSettings) (rules actions markers text outcomes members : Li
     abbrev unit : List ℕ
     unit = matched_in (journal_list members)
 
-    module _ (rule : Rule) (rule-is : rule ≡ get_or (rule_list rules) (starter_of unit) no_rule) (id : OptionU64)
+    module _ (rule : Rule) (rule-is : rule ≡ get_or (rule_list rules) (starter_of unit) no_rule) (id : Option ℕ)
         (id-is : id ≡ record_id rule) where
       starter-id : id ≡ id_at q (starter_of unit)
       unfolding id_at rule_at
@@ -33,7 +33,7 @@ module _ (call : CallSettings) (rules actions markers text outcomes members : Li
 
       data_is : gather (member_entry call.phase id (rule_list rules) outcomes) unit ≡ unit_data q unit
       unfolding id_at rule_at outcome_at
-      data_is = ap (λ (i : OptionU64). gather (member_entry call.phase i (rule_list rules) outcomes) unit) starter-id
+      data_is = ap (λ (i : Option ℕ). gather (member_entry call.phase i (rule_list rules) outcomes) unit) starter-id
 
       flow-is : last_flow (actions_of (action_list actions) rule) ≡ unit_flow q unit
       unfolding unit_flow actions_at rule_at

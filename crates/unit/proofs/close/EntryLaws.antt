@@ -4,14 +4,12 @@ use mathlib.Core.Path.{◌≡◌, refl, sym, ap, subst, ◌∙◌}
 use mathlib.Core.Bool.{Bool, true, false, ◌&&◌}
 use mathlib.Core.List.{List, [], ◌∷◌, ◌++◌, append-nil}
 use native.Mathlib.Omega.{arith}
-use borrow.Author.Tests.{lt-ltb, le-ltb, eq-eqb, ne_eqb, ltb-true, ltb-false}
+use borrow.Author.Tests.{ltb-true, ltb-false}
 use lib.Dec.{ltb, eqb}
-use lib.ListN.{length, take, drop, get_or, set, length-take}
+use lib.ListN.{length, take, drop, get_or, length-take}
 use lib.Seq.{sets, length-take-le, take-nil}
-use Rattle.reading.specs.declared.OptionU64.{OptionU64}
 use Rattle.reading.specs.declared.DataEntry.{DataEntry}
-use Rattle.reading.specs.Lists.{keep, over, gather}
-use Rattle.reading.specs.Numbers.{list_of}
+use Rattle.reading.specs.Lists.{keep, gather}
 use Rattle.reading.specs.Records.{data_words, journal_list, matched_in}
 use Rattle.lists.proofs.Filled.{Filled, filled-start, filled-done, filled_put}
 use Rattle.unit.proofs.members.MatchedLaws.{next-entries}
@@ -19,56 +17,9 @@ use Rattle.unit.proofs.members.WordLaws.{length-data-words, data-words-append}
 use Rattle.lists.proofs.RecordLaws.{entries-end}
 use Rattle.unit.specs.CloseUnit.{fitting, Put, Listed}
 
--- an id, none or one, written where there is a place
-pub id-none : (ids : List ℕ) (id : OptionU64) → id ≡ OptionU64.None
-    → (0 ≡ length (take (length ids) (list_of id))) × (ids ≡ over ids (take (length ids) (list_of id)))
-id-none ids id e =
-    let z : take (length ids) (list_of id) ≡ [] = rw e (take-nil (length ids)) in
-    (rw z, rw z)
-
-pub id-no-place : (ids : List ℕ) (id : OptionU64) → length ids ≡ 0
-    → (0 ≡ length (take (length ids) (list_of id))) × (ids ≡ over ids (take (length ids) (list_of id)))
-id-no-place ids id e = (rw e, rw e)
-
-pub id-one : (ids : List ℕ) (id : OptionU64) (n : ℕ) → id ≡ OptionU64.Some n → (length ids ≡ 0 → ⊥)
-    → (1 ≡ length (take (length ids) (list_of id))) × (set ids 0 n ≡ over ids (take (length ids) (list_of id)))
-id-one [] id n e h = absurd (h refl)
-id-one (x ∷ ids) id n e h =
-    let t : ◌≡◌ {A = List ℕ} (take (length ids) []) [] = take-nil (length ids) in
-    (rw (e, t), rw (e, t))
-
--- one entry at w, or none
-module _ (new : List DataEntry) (w : ℕ) (words : List ℕ) where
-  pub put-none : fitting words w new ≡ [] → Put new w words w words
-  put-none e = record { next-is = rw e (omega arith); words = rw e }
-
-pub no-match : (a b : ℕ) (e : DataEntry) → (a ≡ 1 → ⊥) → keep (eqb a 1 && eqb b 2) (e ∷ []) ≡ []
-no-match a b e h = rw (ne_eqb a 1 h)
-
-pub no-variable : (a b : ℕ) (e : DataEntry) → a ≡ 1 → (b ≡ 2 → ⊥) → keep (eqb a 1 && eqb b 2) (e ∷ []) ≡ []
-no-variable a b e h k = rw (eq-eqb a 1 h, ne_eqb b 2 k)
-
 none-fits : (b : Bool) → keep {A = DataEntry} b [] ≡ []
 none-fits true = refl
 none-fits false = refl
-
-pub put-nothing : (new : List DataEntry) (w : ℕ) (words : List ℕ) → new ≡ [] → Put new w words w words
-put-nothing new w words e = put-none new w words (rw e (none-fits (ltb w (length words / 4))))
-
-pub put-no-place : (new : List DataEntry) (w : ℕ) (words : List ℕ) → length words / 4 ≤ w → Put new w words w words
-put-no-place new w words h = put-none new w words (rw (le-ltb w (length words / 4) h))
-
-pub put_one : (a b : ℕ) (e : DataEntry) (w : ℕ) (words : List ℕ) → a ≡ 1 → b ≡ 2 → w < length words / 4
-    → Put (keep (eqb a 1 && eqb b 2) (e ∷ [])) w words (w + 1)
-    (set (set (set (set words (4 * w) e.present) (4 * w + 1) e.id) (4 * w + 2) e.phase) (4 * w + 3) e.index)
-put_one a b e w words h k l =
-    let i : 4 * w + 1 ≡ suc (4 * w) = omega arith in
-    let j : 4 * w + 2 ≡ suc (suc (4 * w)) = omega arith in
-    let m : 4 * w + 3 ≡ suc (suc (suc (4 * w))) = omega arith in
-    record {
-      next-is = rw (eq-eqb a 1 h, eq-eqb b 2 k, lt-ltb w (length words / 4) l);
-      words = rw (eq-eqb a 1 h, eq-eqb b 2 k, lt-ltb w (length words / 4) l, i, j, m);
-    }
 
 -- the first entries that fit, by the first one or none
 take-fit : (room w : ℕ) (new rest : List DataEntry) → length new ≤ 1

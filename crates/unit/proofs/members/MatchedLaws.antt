@@ -1,21 +1,24 @@
 -- The matched entries of a part of the journal, by the entries' places. Assumes nothing.
-use Prim.Native.Nat.{ℕ, ◌+◌, ◌*◌, ◌/◌, ◌≤◌, ◌<◌}
+use Prim.Native.Nat.{ℕ, ◌+◌, ◌/◌, ◌<◌}
 use mathlib.Core.Path.{◌≡◌, refl, sym, ap, ◌∙◌}
-use mathlib.Core.List.{List, [], ◌∷◌, ◌++◌, append_assoc, append-nil}
+use mathlib.Core.List.{List, [], ◌∷◌, ◌++◌, map, reverse, map-append, append_assoc, append-nil}
+use mathlib.Core.Bool.{Bool, true, false, cond}
 use native.Mathlib.Omega.{arith}
 use native.Mathlib.Numerals.{add-one}
-use borrow.Author.Tests.{eq-eqb, ne_eqb}
-use lib.ListN.{length, get_or, take, drop}
+use lib.ListN.{length, get_or, drop}
 use lib.Dec.{eqb}
-use lib.Seq.{take-suc, take_all}
 use Rattle.reading.specs.Lists.{keep}
 use Rattle.reading.specs.declared.JournalEntry.{JournalEntry}
 use Rattle.reading.specs.Records.{journal_from, journal_list, matched_in}
-use Rattle.reading.specs.Units.{closer_of}
-use Rattle.lists.proofs.RecordLaws.{record_is, length-entries, drop-entries, entries-end}
-
-pub no_entry : JournalEntry
-no_entry = record { index = 0; verdict = 0 }
+use Rattle.reading.specs.Units.{starter_of, closer_of}
+use Rattle.std.proofs.Common.{Option, Some}
+use Rattle.std.proofs.lemmas.List.{length-reverse}
+use Rattle.std.proofs.lemmas.Grind.{reverse_onto}
+use Rattle.std.specs.Option.{option_map, unwrap_or}
+use Rattle.std.specs.List.{find}
+use Rattle.std.specs.Simd.{first_chunks}
+use Rattle.lists.proofs.Chunks.{journal-arrays}
+use Rattle.lists.proofs.RecordLaws.{drop-entries}
 
 module _ (words : List ℕ) where
   -- the entries from k on
@@ -23,52 +26,73 @@ module _ (words : List ℕ) where
       (journal_list words)
   next-entries k h = drop-entries words k h ∙ ap (λ (n : ℕ). journal_from words k ∷ drop n (journal_list words)) (sym (add-one k))
 
-  -- the entry at k, matched or not
-  pub matched-yes : (k : ℕ) → k < length words / 2 → get_or words (2 * k + 1) 0 ≡ 1
-      → matched_in (drop k (journal_list words)) ≡ get_or words (2 * k) 0 ∷ matched_in (drop (k + 1) (journal_list words))
-  matched-yes k h e = rw (next-entries k h, eq-eqb (get_or words (2 * k + 1) 0) 1 e)
-
-  pub matched-no : (k : ℕ) → k < length words / 2 → (get_or words (2 * k + 1) 0 ≡ 1 → ⊥)
-      → matched_in (drop k (journal_list words)) ≡ matched_in (drop (k + 1) (journal_list words))
-  matched-no k h e = rw (next-entries k h, ne_eqb (get_or words (2 * k + 1) 0) 1 e)
-
-  pub matched-end : (k : ℕ) → length words / 2 ≤ k → matched_in (drop k (journal_list words)) ≡ []
-  matched-end k h = rw (entries-end words k h)
-
--- the last member of a list with one more, and of entries of which the later ones are not matched
-closer-last : (ms : List ℕ) (m : ℕ) → closer_of (ms ++ (m ∷ [])) ≡ m
-closer-last [] m = refl
-closer-last (a ∷ []) m = refl
-closer-last (a ∷ b ∷ ms) m = closer-last (b ∷ ms) m
-
 pub matched-append : (es fs : List JournalEntry) → matched_in (es ++ fs) ≡ matched_in es ++ matched_in fs
 matched-append [] fs = refl
 matched-append (e ∷ es) fs =
     let k = keep (eqb e.verdict 1) (e.index ∷ []) in
     ap (λ (l : List ℕ). k ++ l) (matched-append es fs) ∙ sym (append_assoc k (matched_in es) (matched_in fs))
 
-module _ (words : List ℕ) (k : ℕ) (h : k < length words / 2) where
-  one_more : take (k + 1) (journal_list words) ≡ take k (journal_list words) ++ (journal_from words k ∷ [])
-  unfolding journal_list
-  one_more =
-      let s : k < length (journal_list words) = omega (arith, length-entries words) in
-      rw (add-one k, take-suc (journal_list words) k no_entry s, record_is 2 journal_from words k no_entry h)
+-- THE MEMBERS AMONG ARRAYS OF TWO NUMBERS
 
-  pub closer-yes : get_or words (2 * k + 1) 0 ≡ 1 → closer_of (matched_in (take (k + 1) (journal_list words))) ≡ get_or words (2 * k) 0
-  closer-yes e =
-      rw (one_more, matched-append (take k (journal_list words)) (journal_from words k ∷ []), eq-eqb (get_or words (2 * k + 1) 0) 1 e)
-      (closer-last (matched_in (take k (journal_list words))) (get_or words (2 * k) 0))
+abbrev pub is_matched : List ℕ → Bool
+is_matched entry = eqb (get_or entry 1 0) 1
 
-  pub closer-no : (get_or words (2 * k + 1) 0 ≡ 1 → ⊥)
-      → closer_of (matched_in (take k (journal_list words))) ≡ closer_of (matched_in (take (k + 1) (journal_list words)))
-  closer-no e =
-      rw (
-        one_more,
-        matched-append (take k (journal_list words)) (journal_from words k ∷ []),
-        ne_eqb (get_or words (2 * k + 1) 0) 1 e,
-        append-nil,
-      )
+-- the first that is matched, of what was found, or 0
+abbrev pub index_of : Option (List ℕ) → ℕ
+index_of found = unwrap_or (option_map (λ entry. get_or entry 0 0) found) 0
 
-pub closer-all : (words : List ℕ) → closer_of (matched_in (take (length words / 2) (journal_list words))) ≡ closer_of
-    (matched_in (journal_list words))
-closer-all words = rw (take_all (length words / 2) (journal_list words) (omega (arith, length-entries words)))
+abbrev entries_of : List (List ℕ) → List JournalEntry
+entries_of arrays = map (λ a. journal_from a 0) arrays
+
+first-matched : (arrays : List (List ℕ)) → index_of (find is_matched arrays) ≡ starter_of (matched_in (entries_of arrays))
+first-matched [] = refl
+first-matched (a ∷ arrays) = go (eqb (get_or a 1 0) 1) (first-matched arrays)
+  where
+    go : (b : Bool) → index_of (find is_matched arrays) ≡ starter_of (matched_in (entries_of arrays))
+        → index_of (cond b (Some a) (find is_matched arrays)) ≡ starter_of (keep b (get_or a 0 0 ∷ []) ++ matched_in (entries_of arrays))
+    go true h = refl
+    go false h = h
+
+pub starter-found : (words : List ℕ) → index_of (find is_matched (first_chunks 2 (length words / 2) words))
+    ≡ starter_of (matched_in (journal_list words))
+starter-found words =
+    first-matched (first_chunks 2 (length words / 2) words)
+    ∙ ap (λ (es : List JournalEntry). starter_of (matched_in es)) (journal-arrays words)
+
+-- the last member of a list is the first from its end on
+starter-append : (l r : List ℕ) → 0 < length l → starter_of (l ++ r) ≡ starter_of l
+starter-append [] r h = absurd (omega arith)
+starter-append (x ∷ l) r h = refl
+
+starter-reverse : (ms : List ℕ) → starter_of (reverse ms) ≡ closer_of ms
+starter-reverse [] = refl
+starter-reverse (m ∷ []) = refl
+starter-reverse (m ∷ n ∷ ms) =
+    ap starter_of (reverse_onto (n ∷ ms) m [])
+    ∙ starter-append (reverse (n ∷ ms)) (m ∷ []) (omega (arith, length-reverse (n ∷ ms)))
+    ∙ starter-reverse (n ∷ ms)
+
+matched-reverse : (arrays : List (List ℕ)) → matched_in (entries_of (reverse arrays)) ≡ reverse (matched_in (entries_of arrays))
+matched-reverse [] = refl
+matched-reverse (a ∷ arrays) =
+    ap (λ (l : List (List ℕ)). matched_in (entries_of l)) (reverse_onto arrays a [])
+    ∙ ap matched_in (map-append (λ a. journal_from a 0) (reverse arrays) (a ∷ []))
+    ∙ matched-append (entries_of (reverse arrays)) (entries_of (a ∷ []))
+    ∙ ap (λ (l : List ℕ). l ++ matched_in (entries_of (a ∷ []))) (matched-reverse arrays)
+    ∙ go (eqb (get_or a 1 0) 1)
+  where
+    ms : List ℕ
+    ms = matched_in (entries_of arrays)
+
+    go : (b : Bool) → reverse ms ++ (keep b (get_or a 0 0 ∷ []) ++ []) ≡ reverse (keep b (get_or a 0 0 ∷ []) ++ ms)
+    go true = sym (reverse_onto ms (get_or a 0 0) [])
+    go false = append-nil (reverse ms)
+
+pub closer-found : (words : List ℕ) → index_of (find is_matched (reverse (first_chunks 2 (length words / 2) words)))
+    ≡ closer_of (matched_in (journal_list words))
+closer-found words =
+    let arrays = first_chunks 2 (length words / 2) words in
+    first-matched (reverse arrays)
+    ∙ ap starter_of (matched-reverse arrays)
+    ∙ starter-reverse (matched_in (entries_of arrays))
+    ∙ ap (λ (es : List JournalEntry). closer_of (matched_in es)) (journal-arrays words)

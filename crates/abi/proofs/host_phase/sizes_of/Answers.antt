@@ -7,4 +7,4 @@ pub returns : goal.returns
 unfolding from_host controls_from_host
 returns c =
     let h = c.args.h in
-    rw (c.is_bad-bad_controls.ensures, bad (controls_from_host h.controls))
+    rw (c.is_bad.ensures, bad (controls_from_host h.controls))

@@ -1,14 +1,15 @@
-use mathlib.Core.Path.{sym, ap, ◌∙◌}
+use mathlib.Core.Path.{refl, sym, ap, ◌∙◌}
+use Rattle.std.proofs.lemmas.Result.{err_from_is_err_and}
+use Rattle.lists.proofs.RefusalLaws.{numbered}
 use Rattle.abi.specs.MarkerLookup.{answered}
 use Rattle.abi.proofs.marker_lookup.LookupLaws.{refused, accepted}
 use Rattle.abi.proofs.marker_lookup.look_up.Goals as goal
 
-pub returns-then-answer-ne0 : goal.returns-then-answer-ne0
-returns-then-answer-ne0 c =
-    c.with_position.ensures ∙ refused _ _ _ _ c.refusal-answer.result (sym c.refusal-answer.ensures) c.if-answer-ne0.true
+pub returns-in_err-refusal : goal.returns-in_err-refusal
+returns-in_err-refusal c =
+    let p = err_from_is_err_and c.from_residual.result c.from_residual.ensures.1 in
+    rw (p.1, p.2) (refused _ _ _ _ _ (sym c.in_err-refusal.ensures) (numbered _))
 
 pub returns : goal.returns
 returns c =
-    c.with_position-2.ensures
-    ∙ ap (answered c.refusal-answer.result) c.marker_named.ensures
-    ∙ accepted _ _ _ _ c.refusal-answer.result (sym c.refusal-answer.ensures) c.if-answer-ne0.false
+    ap (answered 0) c.marker_named.ensures ∙ accepted _ _ _ _ 0 (sym c.in_ok-refusal.ensures) refl

@@ -1,4 +1,3 @@
-use Prim.Native.Nat.{◌-◌, ◌≤◌}
 use mathlib.Core.Path.{◌≡◌}
 use lib.ListN.{length, take}
 use Rattle.abi.specs.MarkerWords.{words_of}
@@ -6,7 +5,4 @@ use Rattle.abi.proofs.marker_words.unpack.Given as goal
 
 -- the first records are copied
 abbrev pub invariant-loop-i : goal.invariant-loop-i
-invariant-loop-i l = (l.i ≤ l.n) × ((l.c.words ≡ words_of (take l.i l.markers)) × (l.c.count ≡ length l.markers))
-
-abbrev pub decreases-loop-i : goal.decreases-loop-i
-decreases-loop-i l = l.n - l.i
+invariant-loop-i l = (l.c.words ≡ words_of (take l.i l.markers)) × (l.c.count ≡ length l.markers)

@@ -1,4 +1,3 @@
-use Prim.Native.Nat.{◌-◌, ◌≤◌}
 use mathlib.Core.Path.{◌≡◌}
 use lib.ListN.{take, get_or}
 use Rattle.reading.specs.Walk.{no_action}
@@ -10,8 +9,5 @@ use Rattle.apply.proofs.codes.write_codes.Given as goal
 
 abbrev pub invariant-loop-i : goal.invariant-loop-i
 invariant-loop-i l =
-    (l.i ≤ l.n) × (l.codes ≡ fitting l.initial.codes (codes_of l.text (take l.i (action_list l.actions)))) × (l.unsupported ≡ any is_reason (codes_of l.text (take l.i (action_list l.actions))))
+    (l.codes ≡ fitting l.initial.codes (codes_of l.text (take l.i (action_list l.actions)))) × (l.unsupported ≡ any is_reason (codes_of l.text (take l.i (action_list l.actions))))
     × IsCodeOf l.text (get_or (action_list l.actions) l.last no_action) l.last_code
-
-abbrev pub decreases-loop-i : goal.decreases-loop-i
-decreases-loop-i l = l.n - l.i

@@ -1,6 +1,4 @@
-use Prim.Native.Nat.{◌≤◌}
 use native.Mathlib.Omega.{arith}
-use lib.ListN.{length}
 use Rattle.apply.proofs.run.RuleLaws.{going_more, going_end}
 use Rattle.apply.proofs.run.rule_controls.Goals as goal
 
@@ -8,7 +6,7 @@ pub loop-i-preserved : goal.loop-i-preserved
 loop-i-preserved c =
     let l = c.loop-i in (
       omega (arith, l.invariant.0),
-      going_more _ _ _ _ _ _ l.i _ _ _ c.loop-i-test.true ((let fact : c.codes_end-end.result ≤ length c.args.codes.now = omega (arith, c.codes_end-end.ensures, c.loop-i-test.true, c.loop-i.invariant.0) in fact)) l.invariant.1 _ _ c.apply-r.ensures,
+      going_more _ _ _ _ _ _ l.i _ _ _ c.loop-i-test.true (omega (arith, c.codes_end-end.ensures, c.loop-i-test.true, c.loop-i.invariant.0)) l.invariant.1 _ _ c.apply-r.ensures,
     )
 
 pub returns : goal.returns

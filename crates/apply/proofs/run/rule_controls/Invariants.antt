@@ -1,4 +1,4 @@
-use Prim.Native.Nat.{◌-◌, ◌≤◌}
+use Prim.Native.Nat.{◌≤◌}
 use Rattle.reading.specs.Lists.{any}
 use Rattle.reading.specs.Records.{action_list}
 use Rattle.control.specs.ControlsStruct.{controls_of}
@@ -12,10 +12,7 @@ abbrev pub invariant-loop-i : goal.invariant-loop-i
 invariant-loop-i l =
     (l.first ≤ l.i)
     × Going (record { phase = l.phase; text = l.text; actions = action_list l.actions }) l.codes
-    l.initial.r.added (struct_of l.initial.r l.initial.starts l.initial.ends l.initial.phases l.initial.positions) l.r.added (struct_of l.r l.starts l.ends l.phases l.positions) l.i l.end
+    l.initial.r.added (struct_of l.initial.r l.initial.arrays.starts l.initial.arrays.ends l.initial.arrays.phases l.initial.arrays.positions) l.r.added (struct_of l.r l.arrays.starts l.arrays.ends l.arrays.phases l.arrays.positions) l.i l.end
     (applied_codes (record { phase = l.phase; text = l.text; actions = action_list l.actions }) l.first (slice l.first l.end l.codes)
-    (controls_of (struct_of l.initial.r l.initial.starts l.initial.ends l.initial.phases l.initial.positions)))
+    (controls_of (struct_of l.initial.r l.initial.arrays.starts l.initial.arrays.ends l.initial.arrays.phases l.initial.arrays.positions)))
     (any is_adding (slice l.first l.end l.codes))
-
-abbrev pub decreases-loop-i : goal.decreases-loop-i
-decreases-loop-i l = l.end - l.i

@@ -1,19 +1,26 @@
 use mathlib.Core.Path.{sym}
+use native.Mathlib.Omega.{arith}
 use Rattle.control.specs.ControlsStruct.{controls_of}
-use Rattle.control.proofs.queries.Asking.{refuses, gives}
 use Rattle.control.proofs.fields.PairLaws.{no_target, target_at}
+use Rattle.control.proofs.queries.Asking.{gives, not-refused}
 use Rattle.control.proofs.queries.target_at.Goals as goal
 
-pub returns-then-is_bad : goal.returns-then-is_bad
-returns-then-is_bad c = refuses c.args.c _ c.is_bad.ensures _ _ c.if-is_bad.true
-
-pub returns-then-targets-at : goal.returns-then-targets-at
+pub returns-then-c-at : goal.returns-then-c-at
 unfolding controls_of
-returns-then-targets-at c =
-    gives c.args.c _ c.is_bad.ensures _ _ _ c.if-is_bad.false (sym (no_target _ _ _ _ c.if-targets-at.true))
+returns-then-c-at c = gives _ _ _ _ c.in_ok-check_controls.ensures (sym (no_target _ _ _ _ c.if-c-at.true))
+
+pub bounds-c-at : goal.bounds-c-at
+bounds-c-at c = omega (arith, (not-refused c.args.c c.in_ok-check_controls.ensures).few-targets)
 
 pub returns : goal.returns
 unfolding controls_of
-returns c =
-    gives c.args.c _ c.is_bad.ensures _ _ _ c.if-is_bad.false
-    (sym (target_at _ _ _ _ c.if-targets-at.false))
+returns c = gives _ _ _ _ c.in_ok-check_controls.ensures (sym (target_at _ _ _ _ c.if-c-at.false))
+
+pub offset_bounds-c-at : goal.offset_bounds-c-at
+offset_bounds-c-at c = omega (arith, (not-refused c.args.c c.in_ok-check_controls.ensures).few-targets)
+
+pub offset_bounds-c-at-2 : goal.offset_bounds-c-at-2
+offset_bounds-c-at-2 c = omega (arith, (not-refused c.args.c c.in_ok-check_controls.ensures).few-targets)
+
+pub bounds-c-at-2 : goal.bounds-c-at-2
+bounds-c-at-2 c = omega (arith, (not-refused c.args.c c.in_ok-check_controls.ensures).few-targets)

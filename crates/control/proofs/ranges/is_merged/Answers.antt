@@ -1,17 +1,16 @@
-use mathlib.Core.Path.{sym, ◌∙◌}
-use native.Mathlib.Omega.{arith}
-use Rattle.control.proofs.ranges.FormLaws.{first-bad, first_good, next-good}
+use Rattle.std.proofs.Common.{rules, tests}
+use mathlib.Core.Path.{refl, ◌∙◌}
+use Rattle.std.proofs.lemmas.Iterator.{YieldsList-from_range}
+use Rattle.std.proofs.lemmas.Iterator.Search.{all_from_yields_List}
+use Rattle.control.proofs.ranges.FormLaws.{first-bad, first_good, follows_at}
 use Rattle.control.proofs.ranges.is_merged.Goals as goal
 
-pub returns-then-last-starts : goal.returns-then-last-starts
-returns-then-last-starts c =
-    let n = c.places_in_use-n in
-    rw (← n.ensures) (first-bad _ _ n.result (omega arith) c.if-last-starts.true)
+pub returns-then-starts-ends : goal.returns-then-starts-ends
+returns-then-starts-ends c =
+    rw (← c.min-n.ensures)
+    (all_from_yields_List (follows_at c.args.starts.now c.args.ends.now) _ _ _ c.all.ensures.ran
+    (YieldsList-from_range 1 c.min-n.result _ refl refl) (λ x b q k. search (rules, tests))
+    ∙ first_good _ _ c.min-n.result c.if-n-eq0.false c.if-starts-ends.true)
 
-pub loop-i-init : goal.loop-i-init
-loop-i-init c =
-    (omega arith, first_good _ _ c.places_in_use-n.result (omega arith) c.if-last-starts.false)
-
-pub loop-i-preserved : goal.loop-i-preserved
-loop-i-preserved c =
-    (omega arith, next-good _ _ _ _ _ c.loop-i.invariant.1 c.loop-i-test.true (sym c.follows.ensures ∙ c.if-follows.true))
+pub returns-else-starts-ends : goal.returns-else-starts-ends
+returns-else-starts-ends c = rw (← c.min-n.ensures) (first-bad _ _ c.min-n.result c.if-n-eq0.false c.if-starts-ends.false)

@@ -22,7 +22,7 @@ returns-in_default-read_number c =
     let e : take (length a.t.now - (a.k + 1)) (drop (a.k + 1) a.t.now) ≡ drop (suc a.k) a.t.now = simp add-one
     (rest_eq a.t.now (suc a.k)) in
     c.read_number-2.ensures ∙ ap number_of (c.trim-past.ensures ∙ ap trim e) in fact) in
-    sym (around-second-bad _ _ _ (sym x ∙ c.in-Value.is)
+    sym (around-second-bad _ _ _ (sym x ∙ c.in-Some.is)
     (sym y ∙ c.in_default-read_number.is))
 
 pub returns-then-end-start : goal.returns-then-end-start
@@ -34,8 +34,8 @@ returns-then-end-start c =
     let e : take (length a.t.now - (a.k + 1)) (drop (a.k + 1) a.t.now) ≡ drop (suc a.k) a.t.now = simp add-one
     (rest_eq a.t.now (suc a.k)) in
     c.read_number-2.ensures ∙ ap number_of (c.trim-past.ensures ∙ ap trim e) in fact) in
-    sym (around-above _ _ _ (sym x ∙ c.in-Value.is) _
-    (sym y ∙ c.in-Value-read_number.is) c.if-end-start.true)
+    sym (around-above _ _ _ (sym x ∙ c.in-Some.is) _
+    (sym y ∙ c.in-Some-read_number.is) c.if-end-start.true)
 
 pub returns : goal.returns
 returns c =
@@ -46,5 +46,5 @@ returns c =
     let e : take (length a.t.now - (a.k + 1)) (drop (a.k + 1) a.t.now) ≡ drop (suc a.k) a.t.now = simp add-one
     (rest_eq a.t.now (suc a.k)) in
     c.read_number-2.ensures ∙ ap number_of (c.trim-past.ensures ∙ ap trim e) in fact) in
-    sym (around-range _ _ _ (sym x ∙ c.in-Value.is) _
-    (sym y ∙ c.in-Value-read_number.is) c.if-end-start.false)
+    sym (around-range _ _ _ (sym x ∙ c.in-Some.is) _
+    (sym y ∙ c.in-Some-read_number.is) c.if-end-start.false)

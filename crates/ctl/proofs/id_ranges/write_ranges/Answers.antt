@@ -1,30 +1,31 @@
+use Rattle.std.proofs.Common.{rules, sym, eqb, add-one}
 use native.Mathlib.Omega.{arith}
-use Rattle.lists.proofs.Slices.{front_length}
-use Rattle.text.proofs.ascii.Search.{index-le}
-use Rattle.ctl.proofs.id_ranges.Filling.{written_last, starts_more, ends_more}
+use borrow.Author.Tests.{tests}
+use lib.ListN.{length-append}
+use Rattle.std.specs.List.{slice_split}
+use Rattle.std.proofs.lemmas.Iterator.Splits.{YieldsList-from_slice_split}
+use Rattle.std.proofs.lemmas.Iterator.Consumers.{YieldsList-turn, YieldsList-end}
+use Rattle.reading.specs.Text.{id_parts}
+use Rattle.ctl.proofs.id_ranges.Filling.{split_is, starts_more, ends_more, written_all}
+use Rattle.ctl.proofs.id_ranges.write_ranges.Given as given
 use Rattle.ctl.proofs.id_ranges.write_ranges.Goals as goal
 
-pub slice_bounds-id_part-end : goal.slice_bounds-id_part-end
-slice_bounds-id_part-end c = front_length _ c.find-comma.result (rw c.find-comma.ensures (index-le 44 _))
+pub loop-part-preserved : goal.loop-part-preserved
+loop-part-preserved c =
+    let v = c.args.value.now in
+    let turn = YieldsList-turn {steps = (given.iterator-loop-part).next_gives} {v = λ x. x.now} {s = c.into_iter-part-iterator.result} {all = slice_split (λ x. eqb x 44) v}
+    (YieldsList-from_slice_split _ (λ x. eqb x 44) v (cc) (cc) (cc) (λ x b q k. search (rules, tests))) _ _ c.loop-part.yielded_by _ _ _ c.in-Some.is c.next.ensures.steps in
+    let here = rw (sym (split_is 44 v)) at turn in
+    let put = rw c.id_part.ensures at c.put_range-k.ensures in
+    simp (length-append, add-one) (
+      starts_more (id_parts v) c.args.starts.now c.args.ends.now _ _ here.0 here.1 _ _ _ _ _ _ c.loop-part.invariant.0 c.loop-part.invariant.1 put,
+      ends_more (id_parts v) c.args.starts.now c.args.ends.now _ _ here.0 here.1 _ _ _ _ _ _ c.loop-part.invariant.0 c.loop-part.invariant.1 put,
+    )
 
-pub returns-then-value-at : goal.returns-then-value-at
-returns-then-value-at c = (written_last (c.args.value.now) (c.args.starts.now) (c.args.ends.now) (c.loop-at.at) (c.find-comma.result) _ c.find-comma.ensures
-    c.id_part-part.ensures
-    _ _ _ _ c.loop-at.k _
-    c.loop-at.invariant.1
-    c.loop-at.invariant.2 c.put_range-k.ensures) c.if-value-at.true
-
-pub loop-at-preserved : goal.loop-at-preserved
-loop-at-preserved c = (
-  omega arith,
-  (starts_more (c.args.value.now) (c.args.starts.now) (c.args.ends.now) (c.loop-at.at) (c.find-comma.result) _ c.find-comma.ensures
-      c.id_part-part.ensures
-      _ _ _ _ c.loop-at.k _
-      c.loop-at.invariant.1
-      c.loop-at.invariant.2 c.put_range-k.ensures) c.if-value-at.false,
-  (ends_more (c.args.value.now) (c.args.starts.now) (c.args.ends.now) (c.loop-at.at) (c.find-comma.result) _ c.find-comma.ensures
-      c.id_part-part.ensures
-      _ _ _ _ c.loop-at.k _
-      c.loop-at.invariant.1
-      c.loop-at.invariant.2 c.put_range-k.ensures) c.if-value-at.false,
-)
+pub returns : goal.returns
+returns c =
+    let v = c.args.value.now in
+    let all = YieldsList-end {steps = (given.iterator-loop-part).next_gives} {v = λ x. x.now} {s = c.into_iter-part-iterator.result} {all = slice_split (λ x. eqb x 44) v}
+    (YieldsList-from_slice_split _ (λ x. eqb x 44) v (cc) (cc) (cc) (λ x b q k. search (rules, tests))) _ _ c.loop-part.yielded_by _ _ c.in-None.is c.next.ensures.steps in
+    let n = rw (sym (split_is 44 v)) at all.1 in
+    written_all v _ _ _ _ _ _ (omega arith) c.loop-part.invariant.0 c.loop-part.invariant.1

@@ -10,5 +10,5 @@ returns c markers text outcomes =
     c.starter_of-starter.ensures c.closer_of-closer.ensures
     c.rule_at.ensures c.rule_at-2.ensures
     c.execute_actions-done.ensures.disruptive c.execute_actions-done.ensures.metadata
-    c.rule_id-closing.ensures c.address_of-url.ensures c.if_different-other.ensures
+    c.rule_id-closing.ensures c.address_of.ensures c.if_different.ensures
     c.status_of.ensures c.is_drop.ensures

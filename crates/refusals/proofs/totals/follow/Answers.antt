@@ -1,16 +1,22 @@
-use native.Mathlib.Omega.{arith}
+use Rattle.std.proofs.Common.{◌<◌, ◌/◌, length, lit<, arith}
+use Rattle.lists.proofs.Chunks.{word-of}
 use Rattle.refusals.proofs.totals.Following.{follows-not, follows-more, follows-end}
 use Rattle.refusals.proofs.totals.follow.Goals as goal
 
-pub returns-then-first-end : goal.returns-then-first-end
-returns-then-first-end c =
-    follows-not _ _ _ c.loop-i.i c.loop-i.invariant (omega arith) _ c.clip-first.ensures
-    c.if-first-end.true
+pub returns-then-from-end : goal.returns-then-from-end
+returns-then-from-end c =
+    let i = c.loop-first.first-index in
+    let h : i < length c.args.rules.now / 5 = omega (arith, c.as_chunks.ensures.front_len) in
+    let word = word-of 5 c.args.rules.now _ c.as_chunks.ensures.front i in
+    follows-not _ _ _ i c.loop-first.invariant h _ (omega (arith, word 3 h (lit< tt))) c.if-from-end.true
 
-pub loop-i-preserved : goal.loop-i-preserved
-loop-i-preserved c =
-    follows-more _ _ _ c.loop-i.i c.loop-i.invariant (omega arith) _ c.clip-first.ensures _
-    c.clip.ensures c.if-first-end.false
+pub loop-first-preserved : goal.loop-first-preserved
+loop-first-preserved c =
+    let i = c.loop-first.first-index in
+    let h : i < length c.args.rules.now / 5 = omega (arith, c.as_chunks.ensures.front_len) in
+    let word = word-of 5 c.args.rules.now _ c.as_chunks.ensures.front i in
+    follows-more _ _ _ i c.loop-first.invariant h _ (omega (arith, word 3 h (lit< tt))) _
+    (omega (arith, c.clip.ensures, word 4 h (lit< tt))) c.if-from-end.false
 
 pub returns : goal.returns
-returns c = follows-end _ _ _ c.loop-i.i c.loop-i.invariant (omega arith)
+returns c = follows-end _ _ _ c.loop-first.first-index c.loop-first.invariant (omega (arith, c.as_chunks.ensures.front_len))

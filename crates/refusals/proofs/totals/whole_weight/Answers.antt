@@ -1,14 +1,13 @@
-use mathlib.Core.Path.{◌∙◌}
-use native.Mathlib.Omega.{arith}
-use Rattle.refusals.proofs.totals.Exceeding.{whole-more, whole-end}
+use Rattle.std.proofs.Common.{rules, ◌≡◌, refl, sym, ◌∙◌}
+use Rattle.std.proofs.iter.runs.Made.{chains}
+use Rattle.std.specs.List.{sum_by}
+use Rattle.std.proofs.lemmas.List.Recursion.{is_sum_by}
+use Rattle.reading.specs.Lists.{total}
 use Rattle.refusals.proofs.totals.whole_weight.Goals as goal
 
-pub loop-i-preserved : goal.loop-i-preserved
-loop-i-preserved c =
-    whole-more _ _ _ c.code_count-n.ensures _ c.loop-i.i c.loop-i.invariant (omega arith) _
-    c.weight-sum.ensures.0 c.weight-sum.ensures.1
-
 pub returns : goal.returns
-returns c =
-    c.wide.ensures
-    ∙ whole-end _ _ _ c.code_count-n.ensures _ c.loop-i.i c.loop-i.invariant (omega arith)
+returns g c =
+    let w = g.C.Weighed.weight in
+    let codes = c.args.codes.now in
+    let e : c.sum-sum.result ≡ sum_by w codes = search (rules, chains) in
+    c.from.ensures ∙ e ∙ sym (is_sum_by (total w) w refl (λ _ _. refl) codes)

@@ -1,4 +1,4 @@
-use Prim.Native.Nat.{◌+◌, ◌-◌}
+use Prim.Native.Nat.{◌+◌}
 use mathlib.Core.Path.{◌≡◌}
 use lib.ListN.{drop}
 use Rattle.reading.specs.Records.{rule_list}
@@ -7,6 +7,3 @@ use Rattle.ruleset.proofs.rules.after_chain.Given as goal
 
 abbrev pub invariant-loop-i : goal.invariant-loop-i
 invariant-loop-i l = l.index + chain_rest (drop l.index (rule_list l.rules)) ≡ l.i + chain_rest (drop l.i (rule_list l.rules))
-
-abbrev pub decreases-loop-i : goal.decreases-loop-i
-decreases-loop-i l = l.n - l.i

@@ -1,43 +1,26 @@
 use mathlib.Core.Path.{sym, ◌∙◌}
 use native.Mathlib.Omega.{arith}
 use native.Mathlib.Numerals.{add-one}
-use Rattle.text.proofs.number.Digits.{digits-none, digits-start, digits_more, digits_low, digits-high, digits-large}
-use Rattle.text.proofs.number.Digits.{digits-end}
+use Rattle.std.proofs.lemmas.Grind.{common_steps}
+use Rattle.text.proofs.number.Digits.{digits-none, digits-start, digits_more, digits_other, digits_large, digits_end}
 use Rattle.text.proofs.number.read_digits.Goals as goal
 
-pub returns-then-s-eq0 : goal.returns-then-s-eq0
-returns-then-s-eq0 c = sym (digits-none c.args.s.now c.if-s-eq0.true)
+pub returns-then-is_empty : goal.returns-then-is_empty
+returns-then-is_empty c = grind (arith, common_steps, digits-none)
 
-pub loop-i-init : goal.loop-i-init
-loop-i-init c = (omega arith, omega arith, digits-start c.args.s.now c.if-s-eq0.false)
+pub loop-b-init : goal.loop-b-init
+loop-b-init c = (omega arith, grind (arith, common_steps, digits-start))
 
-pub returns-then-b-lt48 : goal.returns-then-b-lt48
-returns-then-b-lt48 c =
-    let at = c in
-    let s = at.args.s.now in
-    sym (at.loop-i.invariant.2 ∙ digits_low at.loop-i.v s at.loop-i.i (omega arith) c.if-b-lt48.true)
+pub returns-then-not-is_ascii_digit : goal.returns-then-not-is_ascii_digit
+returns-then-not-is_ascii_digit c = sym (c.loop-b.invariant.1 ∙ digits_other c.loop-b.v _ c.loop-b.b-index (omega arith) (cc))
 
-pub returns-then-b-gt57 : goal.returns-then-b-gt57
-returns-then-b-gt57 c =
-    let at = c in
-    let s = at.args.s.now in
-    sym (at.loop-i.invariant.2 ∙ digits-high at.loop-i.v s at.loop-i.i (omega arith) c.if-b-gt57.true)
+pub returns-in_default : goal.returns-in_default
+returns-in_default c = sym (c.loop-b.invariant.1 ∙ digits_large c.loop-b.v _ c.loop-b.b-index (omega arith) (cc) (omega arith))
 
-pub returns-then-d-v : goal.returns-then-d-v
-returns-then-d-v c =
-    let at = c in
-    let s = at.args.s.now in
-    sym (at.loop-i.invariant.2 ∙ digits-large at.loop-i.v s at.loop-i.i (omega arith) (omega arith) (omega arith) c.if-d-v.true)
-
-pub loop-i-preserved : goal.loop-i-preserved
-loop-i-preserved c =
-    let at = c in
-    let s = at.args.s.now in
-    let e = digits_more at.loop-i.v s at.loop-i.i (omega arith) (omega arith) (omega arith) in
-    simp add-one (omega arith, omega arith, at.loop-i.invariant.2 ∙ e)
+pub loop-b-preserved : goal.loop-b-preserved
+loop-b-preserved c =
+    let e = digits_more c.loop-b.v c.args.s.now c.loop-b.b-index (omega arith) (cc) in
+    simp add-one (omega arith, c.loop-b.invariant.1 ∙ rw (sym c.in-Some.ensures.1) at e)
 
 pub returns : goal.returns
-returns c =
-    let at = c in
-    sym (at.loop-i.invariant.2 ∙ digits-end at.loop-i.v at.args.s.now at.loop-i.i c.loop-i-test.false
-    at.loop-i.invariant.1)
+returns c = sym (c.loop-b.invariant.1 ∙ digits_end c.loop-b.v _ c.loop-b.b-index (omega arith) (omega arith))

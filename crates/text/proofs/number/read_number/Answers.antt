@@ -1,19 +1,16 @@
-use mathlib.Core.Path.{sym, ap, ◌∙◌}
-use Rattle.reading.specs.Text.{digits}
-use Rattle.lists.proofs.Slices.{rest_eq}
-use Rattle.text.proofs.number.Digits.{number-none, number-plus, number-plain}
+use Rattle.std.proofs.Common.{ℕ, List, ◌≡◌, ap, sym, ◌∙◌, length, drop, true, false, unwrap_or, ◌+◌, Bor}
+use Rattle.std.specs.Option.{MatchOption}
+use Rattle.std.specs.declared.option.Option.{Option}
+use Rattle.std.specs.declared.option.Option.TheVariants.{Some, None}
+use Rattle.reading.specs.Text.{digits, number_of}
+use Rattle.text.proofs.number.Digits.{has_plus, number_plain, number_plus}
 use Rattle.text.proofs.number.read_number.Goals as goal
 
-pub returns-then-s-eq0 : goal.returns-then-s-eq0
-returns-then-s-eq0 c = sym (number-none c.args.s.now c.if-s-eq0.true)
-
-pub returns-then-s-eq43 : goal.returns-then-s-eq43
-returns-then-s-eq43 c =
-    let s = c.args.s.now in
-    c.read_digits.ensures ∙ (ap digits (rest_eq s 1) ∙ sym
-    (number-plus s c.if-s-eq0.false c.if-s-eq43.true))
+stripped : (s : Bor (List ℕ)) (r : Option (Bor (List ℕ)))
+    → MatchOption r (has_plus s.now ≡ false) (λ x. (has_plus s.now ≡ true) × (x.now ≡ drop 1 s.now) × (length x.now + 1 ≡ length s.now))
+    → digits (unwrap_or r s).now ≡ number_of s.now
+stripped s None e = sym (number_plain s.now e)
+stripped s (Some x) e = ap digits e.1 ∙ sym (number_plus s.now e.0)
 
 pub returns : goal.returns
-returns c =
-    let s = c.args.s.now in
-    c.read_digits-2.ensures ∙ sym (number-plain s c.if-s-eq0.false c.if-s-eq43.false)
+returns c = c.read_digits.ensures ∙ ap (λ t. digits t.now) c.unwrap_or.ensures ∙ stripped c.args.s c.strip_prefix.result c.strip_prefix.ensures.cases

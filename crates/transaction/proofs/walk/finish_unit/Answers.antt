@@ -15,7 +15,7 @@ returns c =
     let ids = a.ids.now in
     let entries = a.entries.now in
     let lists = c.close_unit-u.new in
-    let arrays = c.unit_controls-h.new in
+    let arrays = c.unit_controls-h.new.arrays in
     let q = given_of a.call a.rules.now a.actions.now (marker_list a.markers.now) a.text.now a.outcomes.now in
     let counts = struct_of c.unit_controls-h.result arrays.starts arrays.ends arrays.phases arrays.positions in
     record {
@@ -29,6 +29,6 @@ returns c =
       turned = c.unit_controls-h.ensures;
       left_is =
           c.leave_unit.ensures (marker_list a.markers.now) a.text.now a.outcomes.now
-          ∙ ap (λ (m : RuleEngineMode). left_under m q (members_at a.at a.journal.now) a.at c.close_unit-u.result
+          ∙ ap (λ (m : RuleEngineMode). left_under m q (members_at a.at a.first a.journal.now) a.at c.close_unit-u.result
           c.unit_controls-h.result) (mode-law q counts (mode_of_number a.call.mode) _ refl refl);
     }

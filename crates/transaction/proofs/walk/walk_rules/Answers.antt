@@ -1,18 +1,12 @@
-use Prim.Native.Nat.{ℕ, ◌/◌, ◌<◌, min}
+use Rattle.std.specs.Prelude.{is_some}
+use Prim.Native.Nat.{ℕ, ◌/◌}
 use mathlib.Core.Path.{◌≡◌, refl, sym, ap, subst, ◌∙◌}
-use mathlib.Core.Bool.{cond}
 use mathlib.Core.List.{List}
-use borrow.Author.Tests.{not-true, not-false}
-use lib.ListN.{length, get_or}
+use lib.ListN.{length}
 use Rattle.reading.specs.declared.CallSettings.{CallSettings}
-use Rattle.reading.specs.declared.Verdict.{Verdict}
-use Rattle.reading.specs.Records.{rule_list, marker_list, given_of}
-use Rattle.reading.specs.Call.{Given, no_rule, record_id}
-use Rattle.reading.specs.Walk.{verdict_by}
-use Rattle.control.specs.Halving.{found_by_halving}
+use Rattle.reading.specs.Records.{marker_list, given_of}
+use Rattle.reading.specs.Call.{Given}
 use Rattle.apply.specs.Append.{struct_of}
-use Rattle.unit.specs.declared.visit.VisitOutcome.{VisitOutcome}
-use Rattle.unit.specs.VisitRule.{found_at}
 use Rattle.transaction.specs.declared.types.Phase.{Phase}
 use Rattle.transaction.specs.declared.types.WalkState.{WalkState}
 use Rattle.transaction.specs.declared.types.Transaction.{Transaction}
@@ -23,6 +17,7 @@ use Rattle.transaction.proofs.Turn.{Turning, inside-rules, past-rules, journal-a
 use Rattle.transaction.proofs.Turn.{sofar-on, fewer-left-on, sofar-error, room-closed}
 use Rattle.transaction.proofs.Turn.{sofar-closed, fewer-left-closed, walked-closed}
 use Rattle.transaction.proofs.walk.walk_rules.Invariants.{entry_by}
+use Rattle.transaction.proofs.walk.walk_rules.Goals.{After-start-at, After-visit_next-v}
 use Rattle.transaction.proofs.walk.walk_rules.Goals as goal
 
 -- what the function is called with
@@ -76,52 +71,61 @@ walked : (a : Asked) (at : WalkState) → at ≡ start_of a.t → (r : Phase) (l
     → Walked (given a) (fresh a.t) (lists a) r l
 walked a at e r l = subst (λ (t : Transaction). Walked (given a) t (lists a) r l) (entry_is a at e)
 
--- what a turn knows whose rule has been visited
-abbrev turn : (a : Asked) (begun : WalkState) → begun ≡ start_of a.t → Ready (given a) (fresh a.t) a.codes (lists a)
-    → (ids entries journal starts ends phases positions : List ℕ) (at : WalkState)
-    → Sofar (given a) (entry a begun) a.ids a.entries a.journal ids entries journal (struct_of at.counts starts ends phases positions)
-    at.counts.added at.state at.visits at.ids at.entries
-    → at.state.next < length a.rules / 5
-    → (v : VisitOutcome)
-    → v ≡ found_at (rule_list a.rules) at.state at.visits
-    (cond (found_by_halving (min at.counts.ranges 256) starts ends (record_id (get_or (rule_list a.rules) at.state.next no_rule)))
-    Verdict.Removed (verdict_by (get_or a.outcomes at.state.next 0)))
-    → Turning
-turn a begun from before ids entries journal starts ends phases positions at so inside v v-is =
-    let held = struct_of at.counts starts ends phases positions in
-    let r = ready a begun from before in
-    let few = few-ranges (given a) (entry a begun) a.codes a.ids a.entries a.journal r
-    ids entries journal held at.counts.added at.state at.visits at.ids at.entries so in
+-- the call, once the walk's first state is made
+abbrev called : After-start-at → Asked
+called c =
+    asked c.args.t c.args.call c.args.rules.now c.args.actions.now c.args.markers.now c.args.text.now c.args.outcomes.now c.args.codes.now
+    c.args.ids.now c.args.entries.now c.args.journal.now
+
+-- a turn, once its rule is visited
+abbrev asked_at : After-visit_next-v → Asked
+asked_at c =
+    asked c.args.t c.args.call c.args.rules.now c.args.actions.now c.args.markers.now c.args.text.now c.args.outcomes.now c.args.codes.now
+    c.args.ids.now c.args.entries.now c.args.journal.now
+
+abbrev visited : After-visit_next-v → Turning
+visited c =
+    let a = asked_at c in
+    let begun = entry a c.start-at.result in
+    let r = ready a c.start-at.result c.start-at.ensures c.requires in
+    let l = c.loop-at in
+    let held = struct_of l.at.counts l.arrays.starts l.arrays.ends l.arrays.phases l.arrays.positions in
+    let few = few-ranges (given a) begun a.codes a.ids a.entries a.journal r
+    l.ids l.entries l.journal held l.at.counts.added l.at.state l.at.visits l.at.ids l.at.entries l.invariant in
+    let v = c.visit_next-v in
     record {
       q = given a;
-      t = entry a begun;
+      t = begun;
       codes = a.codes;
       ids₀ = a.ids;
       entries₀ = a.entries;
       journal₀ = a.journal;
       ready = r;
       reading = refl;
-      ids = ids;
-      entries = entries;
-      journal = journal;
+      ids = l.ids;
+      entries = l.entries;
+      journal = l.journal;
       c = held;
-      added = at.counts.added;
-      s = at.state;
-      visits = at.visits;
-      listed = at.ids;
-      written = at.entries;
-      so = so;
-      inside = inside-rules a.rules at.state.next inside;
-      found = v.verdict;
-      found-is = verdict-found (given a) held at.state at.visits few so.merged v v-is;
-      w = v;
-      w-is = visit-found (given a) held at.state at.visits few so.merged v v-is;
+      added = l.at.counts.added;
+      s = l.at.state;
+      visits = l.at.visits;
+      listed = l.at.ids;
+      written = l.at.entries;
+      so = l.invariant;
+      inside = inside-rules a.rules l.at.state.next c.loop-at-test.true;
+      found = v.result.verdict;
+      found-is = verdict-found (given a) held l.at.state l.at.visits few l.invariant.merged v.result v.ensures.value;
+      w = v.result;
+      w-is = visit-found (given a) held l.at.state l.at.visits few l.invariant.merged v.result v.ensures.value;
     }
+
+walked_at : (c : After-visit_next-v) (r : Phase) (l : WalkLists) → Walked (given (asked_at c)) (visited c).t (lists (asked_at c)) r l
+    → Walked (given (asked_at c)) (fresh c.args.t) (lists (asked_at c)) r l
+walked_at c = walked (asked_at c) c.start-at.result c.start-at.ensures
 
 pub loop-at-init : goal.loop-at-init
 loop-at-init c =
-    let a = asked c.args.t c.args.call c.args.rules.now c.args.actions.now c.args.markers.now c.args.text.now c.args.outcomes.now c.args.codes.now
-    c.args.ids.now c.args.entries.now c.args.journal.now in
+    let a = called (goal.at.loop-at-init c).After-start-at in
     subst (λ (r : WalkState). Sofar (given a) (entry a c.start-at.result) a.ids a.entries a.journal a.ids a.entries
     a.journal (entry a c.start-at.result).controls r.counts.added r.state r.visits (entry a c.start-at.result).ids (entry a c.start-at.result).entries)
     (sym c.start-at.ensures)
@@ -130,107 +134,81 @@ loop-at-init c =
 
 pub visit_next-v-requires : goal.visit_next-v-requires
 visit_next-v-requires c =
-    let a = asked c.args.t c.args.call c.args.rules.now c.args.actions.now c.args.markers.now c.args.text.now c.args.outcomes.now c.args.codes.now
-    c.args.ids.now c.args.entries.now c.args.journal.now in
+    let a = called (goal.at.visit_next-v-requires c).After-start-at in
     let l = c.loop-at in
     journal-ahead (given a) (entry a c.start-at.result) a.codes a.ids a.entries a.journal
     (ready a c.start-at.result c.start-at.ensures c.requires) refl l.ids l.entries l.journal
-    (struct_of l.at.counts l.starts l.ends l.phases l.positions) l.at.counts.added l.at.state l.at.visits l.at.ids l.at.entries l.invariant
+    (struct_of l.at.counts l.arrays.starts l.arrays.ends l.arrays.phases l.arrays.positions) l.at.counts.added l.at.state l.at.visits l.at.ids l.at.entries l.invariant
     (inside-rules a.rules l.at.state.next c.loop-at-test.true)
 
 -- AN ERROR
 
 pub returns-then-is_error : goal.returns-then-is_error
 returns-then-is_error c =
-    let a = asked c.args.t c.args.call c.args.rules.now c.args.actions.now c.args.markers.now c.args.text.now c.args.outcomes.now c.args.codes.now
-    c.args.ids.now c.args.entries.now c.args.journal.now in
-    let l = c.loop-at in
+    let now = (goal.at.returns-then-is_error c).After-visit_next-v in
     let v = c.visit_next-v in
-    let now = turn a c.start-at.result c.start-at.ensures c.requires l.ids l.entries l.journal l.starts l.ends l.phases l.positions l.at l.invariant
-    c.loop-at-test.true v.result v.ensures.value in
     rw (c.ended.ensures, c.end_at.ensures)
-    (walked a c.start-at.result c.start-at.ensures _ _
-    (sofar-error now v.new.journal v.ensures.journal_after (sym c.is_error.ensures ∙ c.if-is_error.true)))
+    (walked_at now _ _
+    (sofar-error (visited now) v.new.journal v.ensures.journal_after (sym c.is_error.ensures ∙ c.if-is_error.true)))
 
 -- NO UNIT IS CLOSED
 
-pub loop-at-smaller-then-not-v : goal.loop-at-smaller-then-not-v
-loop-at-smaller-then-not-v c =
-    let a = asked c.args.t c.args.call c.args.rules.now c.args.actions.now c.args.markers.now c.args.text.now c.args.outcomes.now c.args.codes.now
-    c.args.ids.now c.args.entries.now c.args.journal.now in
-    let l = c.loop-at in
+pub loop-at-smaller-in_default : goal.loop-at-smaller-in_default
+loop-at-smaller-in_default c =
     let v = c.visit_next-v in
-    let now = turn a c.start-at.result c.start-at.ensures c.requires l.ids l.entries l.journal l.starts l.ends l.phases l.positions l.at l.invariant
-    c.loop-at-test.true v.result v.ensures.value in
-    fewer-left-on now v.new.journal v.ensures.journal_after (not-true v.result.closes c.if-not-v.true) (length a.rules / 5) c.loop-at-test.true
+    fewer-left-on (visited (goal.at.loop-at-smaller-in_default c).After-visit_next-v) v.new.journal v.ensures.journal_after
+    (ap is_some c.in_default.is) (length c.args.rules.now / 5) c.loop-at-test.true
 
-pub loop-at-preserved-then-not-v : goal.loop-at-preserved-then-not-v
-loop-at-preserved-then-not-v c =
-    let a = asked c.args.t c.args.call c.args.rules.now c.args.actions.now c.args.markers.now c.args.text.now c.args.outcomes.now c.args.codes.now
-    c.args.ids.now c.args.entries.now c.args.journal.now in
-    let l = c.loop-at in
+pub loop-at-preserved-in_default : goal.loop-at-preserved-in_default
+loop-at-preserved-in_default c =
     let v = c.visit_next-v in
-    let now = turn a c.start-at.result c.start-at.ensures c.requires l.ids l.entries l.journal l.starts l.ends l.phases l.positions l.at l.invariant
-    c.loop-at-test.true v.result v.ensures.value in
-    sofar-on now v.new.journal v.ensures.journal_after (not-true v.result.closes c.if-not-v.true) (sym c.is_error.ensures ∙ c.if-is_error.false)
+    sofar-on (visited (goal.at.loop-at-preserved-in_default c).After-visit_next-v) v.new.journal v.ensures.journal_after
+    (ap is_some c.in_default.is) (sym c.is_error.ensures ∙ c.if-is_error.false)
 
 -- A UNIT IS CLOSED
 
 pub finish_unit-left-requires : goal.finish_unit-left-requires
 finish_unit-left-requires c =
-    let a = asked c.args.t c.args.call c.args.rules.now c.args.actions.now c.args.markers.now c.args.text.now c.args.outcomes.now c.args.codes.now
-    c.args.ids.now c.args.entries.now c.args.journal.now in
     let l = c.loop-at in
     let v = c.visit_next-v in
-    let now = turn a c.start-at.result c.start-at.ensures c.requires l.ids l.entries l.journal l.starts l.ends l.phases l.positions l.at l.invariant
-    c.loop-at-test.true v.result v.ensures.value in
-    room-closed now v.new.journal v.ensures.journal_after (not-false v.result.closes c.if-not-v.false) l.at.counts l.starts l.ends l.phases l.positions refl refl
+    room-closed (visited (goal.at.finish_unit-left-requires c).After-visit_next-v) v.new.journal v.ensures.journal_after c.in-Some.first c.in-Some.is
+    l.at.counts l.arrays.starts l.arrays.ends l.arrays.phases l.arrays.positions refl refl
 
 pub returns-in-Ends : goal.returns-in-Ends
 returns-in-Ends c =
-    let a = asked c.args.t c.args.call c.args.rules.now c.args.actions.now c.args.markers.now c.args.text.now c.args.outcomes.now c.args.codes.now
-    c.args.ids.now c.args.entries.now c.args.journal.now in
+    let now = (goal.at.returns-in-Ends c).After-visit_next-v in
     let l = c.loop-at in
     let v = c.visit_next-v in
-    let now = turn a c.start-at.result c.start-at.ensures c.requires l.ids l.entries l.journal l.starts l.ends l.phases l.positions l.at l.invariant
-    c.loop-at-test.true v.result v.ensures.value in
     rw c.ended-in-Ends.ensures
-    (walked a c.start-at.result c.start-at.ensures _ _
-    (walked-closed now v.new.journal v.ensures.journal_after (not-false v.result.closes c.if-not-v.false) l.at.counts l.starts l.ends l.phases l.positions refl refl _ _ _ _ _ _ _
+    (walked_at now _ _
+    (walked-closed (visited now) v.new.journal v.ensures.journal_after c.in-Some.first c.in-Some.is l.at.counts l.arrays.starts l.arrays.ends l.arrays.phases l.arrays.positions refl refl _ _ _ _ _ _ _
     c.finish_unit-left.ensures _ c.in-Ends.is))
 
 pub loop-at-smaller : goal.loop-at-smaller
 loop-at-smaller c =
-    let a = asked c.args.t c.args.call c.args.rules.now c.args.actions.now c.args.markers.now c.args.text.now c.args.outcomes.now c.args.codes.now
-    c.args.ids.now c.args.entries.now c.args.journal.now in
     let l = c.loop-at in
     let v = c.visit_next-v in
-    let now = turn a c.start-at.result c.start-at.ensures c.requires l.ids l.entries l.journal l.starts l.ends l.phases l.positions l.at l.invariant
-    c.loop-at-test.true v.result v.ensures.value in
-    fewer-left-closed now v.new.journal v.ensures.journal_after (not-false v.result.closes c.if-not-v.false) l.at.counts l.starts l.ends l.phases l.positions refl refl _ _ _ _ _ _ _
-    c.finish_unit-left.ensures _ c.in-GoesOn.is (length a.rules / 5) c.loop-at-test.true
+    fewer-left-closed (visited (goal.at.loop-at-smaller c).After-visit_next-v) v.new.journal v.ensures.journal_after c.in-Some.first c.in-Some.is
+    l.at.counts l.arrays.starts l.arrays.ends l.arrays.phases l.arrays.positions refl refl _ _ _ _ _ _ _
+    c.finish_unit-left.ensures _ c.in-GoesOn.is (length c.args.rules.now / 5) c.loop-at-test.true
 
 pub loop-at-preserved : goal.loop-at-preserved
 loop-at-preserved c =
-    let a = asked c.args.t c.args.call c.args.rules.now c.args.actions.now c.args.markers.now c.args.text.now c.args.outcomes.now c.args.codes.now
-    c.args.ids.now c.args.entries.now c.args.journal.now in
     let l = c.loop-at in
     let v = c.visit_next-v in
-    let now = turn a c.start-at.result c.start-at.ensures c.requires l.ids l.entries l.journal l.starts l.ends l.phases l.positions l.at l.invariant
-    c.loop-at-test.true v.result v.ensures.value in
-    sofar-closed now v.new.journal v.ensures.journal_after (not-false v.result.closes c.if-not-v.false) l.at.counts l.starts l.ends l.phases l.positions refl refl _ _ _ _ _ _ _
+    sofar-closed (visited (goal.at.loop-at-preserved c).After-visit_next-v) v.new.journal v.ensures.journal_after c.in-Some.first c.in-Some.is
+    l.at.counts l.arrays.starts l.arrays.ends l.arrays.phases l.arrays.positions refl refl _ _ _ _ _ _ _
     c.finish_unit-left.ensures _ c.in-GoesOn.is
 
 -- NO RULE IS LEFT
 
 pub returns : goal.returns
 returns c =
-    let a = asked c.args.t c.args.call c.args.rules.now c.args.actions.now c.args.markers.now c.args.text.now c.args.outcomes.now c.args.codes.now
-    c.args.ids.now c.args.entries.now c.args.journal.now in
+    let a = called (goal.at.returns c).After-start-at in
     let l = c.loop-at in
     rw (c.ended-2.ensures, c.end_at-2.ensures)
     (walked a c.start-at.result c.start-at.ensures _ _
     (sofar-end (given a) (entry a c.start-at.result) a.ids a.entries a.journal
-    l.ids l.entries l.journal (struct_of l.at.counts l.starts l.ends l.phases l.positions) l.at.counts.added l.at.state l.at.visits l.at.ids
+    l.ids l.entries l.journal (struct_of l.at.counts l.arrays.starts l.arrays.ends l.arrays.phases l.arrays.positions) l.at.counts.added l.at.state l.at.visits l.at.ids
     l.at.entries l.invariant
     (past-rules a.rules l.at.state.next c.loop-at-test.false)))

@@ -1,8 +1,8 @@
+use Rattle.std.specs.Prelude.{None}
 use Prim.Native.Nat.{ℕ, ◌-◌, ◌/◌}
 use mathlib.Core.Bool.{false}
 use mathlib.Core.List.{List}
 use lib.ListN.{length}
-use Rattle.reading.specs.declared.OptionIntervention.{OptionIntervention}
 use Rattle.reading.specs.Records.{marker_list, given_of}
 use Rattle.apply.specs.Append.{struct_of}
 use Rattle.transaction.specs.declared.types.WalkState.{WalkState}
@@ -15,14 +15,14 @@ abbrev pub entry_by : WalkState → List ℕ → List ℕ → List ℕ → List 
 entry_by at starts ends phases positions = record {
   controls = struct_of at.counts starts ends phases positions;
   allowed = false;
-  intervention = OptionIntervention.None;
+  intervention = None;
   ids = at.ids;
   entries = at.entries;
 }
 
 abbrev pub invariant-loop-at : goal.invariant-loop-at
 invariant-loop-at l =
-    Sofar (given_of l.call l.rules l.actions (marker_list l.markers) l.text l.outcomes) (entry_by l.initial.at l.initial.starts l.initial.ends l.initial.phases l.initial.positions) l.initial.ids l.initial.entries l.initial.journal l.ids l.entries l.journal (struct_of l.at.counts l.starts l.ends l.phases l.positions) l.at.counts.added l.at.state l.at.visits l.at.ids
+    Sofar (given_of l.call l.rules l.actions (marker_list l.markers) l.text l.outcomes) (entry_by l.initial.at l.initial.arrays.starts l.initial.arrays.ends l.initial.arrays.phases l.initial.arrays.positions) l.initial.ids l.initial.entries l.initial.journal l.ids l.entries l.journal (struct_of l.at.counts l.arrays.starts l.arrays.ends l.arrays.phases l.arrays.positions) l.at.counts.added l.at.state l.at.visits l.at.ids
     l.at.entries
 
 abbrev pub decreases-loop-at : goal.decreases-loop-at

@@ -1,6 +1,6 @@
 use mathlib.Core.Path.{sym}
 use Rattle.lists.proofs.RecordLaws.{length-rules}
-use Rattle.unit.proofs.flow.FlowLaws.{flow-on, flow-chain, flow-skip, flow-after}
+use Rattle.unit.proofs.flow.FlowLaws.{flow-on, flow-skip, flow-after}
 use Rattle.unit.proofs.flow.after_flow.Goals as goal
 
 pub returns-in-Continue : goal.returns-in-Continue
@@ -8,12 +8,6 @@ returns-in-Continue c = λ call outcomes. let a = c.args in
     flow-on call a.rules.now a.actions.now a.markers.now a.text.now outcomes a.past _
     (sym (length-rules a.rules.now)) a.flow c.skip_to.result c.in-Continue.is
     c.skip_to.ensures
-
-pub returns-in-Chain : goal.returns-in-Chain
-returns-in-Chain c = λ call outcomes. let a = c.args in
-    flow-chain call a.rules.now a.actions.now a.markers.now a.text.now outcomes a.past _
-    (sym (length-rules a.rules.now)) a.flow c.skip_to-in-Chain.result c.in-Chain.is
-    c.skip_to-in-Chain.ensures
 
 pub returns-in-Skip : goal.returns-in-Skip
 returns-in-Skip c = λ call outcomes. let a = c.args in

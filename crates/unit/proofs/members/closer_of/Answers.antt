@@ -1,25 +1,17 @@
-use Prim.Native.Nat.{◌-◌, ◌+◌}
-use mathlib.Core.Path.{◌≡◌, sym, ◌∙◌}
-use native.Mathlib.Omega.{arith}
-use Rattle.unit.proofs.members.MatchedLaws.{closer-yes, closer-no, closer-all}
+use Rattle.std.proofs.Common.{rules, ◌≡◌, length, ◌/◌, ap, ◌∙◌}
+use borrow.Author.Tests.{tests}
+use Rattle.std.specs.Simd.{first_chunks}
+use Rattle.std.specs.Option.{option_map}
+use Rattle.std.proofs.lemmas.Iterator.Adapters.{YieldsList-from_rev_slice}
+use Rattle.std.proofs.lemmas.Iterator.Search.{find_from_yields_List}
+use Rattle.unit.proofs.members.MatchedLaws.{is_matched, index_of, closer-found}
 use Rattle.unit.proofs.members.closer_of.Goals as goal
 
-pub loop-k-init : goal.loop-k-init
-loop-k-init c = (closer-all c.args.entries.now, omega arith)
-
-pub returns-then-entries-k-eq1 : goal.returns-then-entries-k-eq1
-returns-then-entries-k-eq1 c = let k = c.loop-k.k in
-    let l : k - 1 + 1 ≡ k = omega (arith, c.loop-k-test.true) in
-    let w = c.args.entries.now in
-    let y = closer-yes w (k - 1)
-    (omega (arith, c.loop-k-test.true, c.loop-k.invariant.1))
-    c.if-entries-k-eq1.true in
-    sym (rw l at y) ∙ c.loop-k.invariant.0
-
-pub loop-k-preserved : goal.loop-k-preserved
-loop-k-preserved c = let k = c.loop-k.k in
-    let l : k - 1 + 1 ≡ k = omega (arith, c.loop-k-test.true) in
-    let w = c.args.entries.now in
-    let y = closer-no w (k - 1) (omega (arith, c.loop-k-test.true, c.loop-k.invariant.1))
-    c.if-entries-k-eq1.false in
-    ((rw l at y) ∙ c.loop-k.invariant.0, omega (arith, c.loop-k.invariant.1))
+pub returns : goal.returns
+returns c =
+    let words = c.args.entries.now in
+    let arrays = first_chunks 2 (length words / 2) words in
+    let e = find_from_yields_List is_matched _ _ c.find-last.result c.find-last.ensures.ran (YieldsList-from_rev_slice arrays cc)
+    (λ x b q k. search (rules, tests)) in
+    let m : c.map_or.result ≡ index_of (option_map (λ x. x.now) c.find-last.result) = search rules in
+    m ∙ ap index_of e ∙ closer-found words

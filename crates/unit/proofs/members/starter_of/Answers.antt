@@ -1,18 +1,17 @@
-use mathlib.Core.Path.{sym, ap, ◌∙◌}
-use Rattle.reading.specs.Units.{starter_of}
-use Rattle.unit.proofs.members.MatchedLaws.{matched-yes, matched-no, matched-end}
+use Rattle.std.proofs.Common.{rules, ◌≡◌, length, ◌/◌, ap, ◌∙◌}
+use borrow.Author.Tests.{tests}
+use Rattle.std.specs.Simd.{first_chunks}
+use Rattle.std.specs.Option.{option_map}
+use Rattle.std.proofs.lemmas.Iterator.{YieldsList-from_slice}
+use Rattle.std.proofs.lemmas.Iterator.Search.{find_from_yields_List}
+use Rattle.unit.proofs.members.MatchedLaws.{is_matched, index_of, starter-found}
 use Rattle.unit.proofs.members.starter_of.Goals as goal
 
-pub returns-then-entries-k-eq1 : goal.returns-then-entries-k-eq1
-returns-then-entries-k-eq1 c = ap starter_of
-    (sym (matched-yes c.args.entries.now
-    c.loop-k.k c.loop-k-test.true c.if-entries-k-eq1.true)) ∙ c.loop-k.invariant
-
-pub loop-k-preserved : goal.loop-k-preserved
-loop-k-preserved c = ap starter_of
-    (sym (matched-no c.args.entries.now c.loop-k.k
-    c.loop-k-test.true c.if-entries-k-eq1.false)) ∙ c.loop-k.invariant
-
 pub returns : goal.returns
-returns c = ap starter_of (sym (matched-end c.args.entries.now c.loop-k.k c.loop-k-test.false))
-    ∙ c.loop-k.invariant
+returns c =
+    let words = c.args.entries.now in
+    let arrays = first_chunks 2 (length words / 2) words in
+    let e = find_from_yields_List is_matched _ _ c.find-first.result c.find-first.ensures.ran (YieldsList-from_slice arrays cc)
+    (λ x b q k. search (rules, tests)) in
+    let m : c.map_or.result ≡ index_of (option_map (λ x. x.now) c.find-first.result) = search rules in
+    m ∙ ap index_of e ∙ starter-found words

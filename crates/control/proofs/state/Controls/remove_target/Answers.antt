@@ -1,4 +1,5 @@
 use borrow.Author.Rules.{rules}
+use Rattle.reading.specs.declared.Refusal.{Refusal}
 use native.Mathlib.Omega.{arith}
 use borrow.Author.Tests.{le-leb}
 use Rattle.control.proofs.state.HeldLaws.{target-refused, target-added}
@@ -6,12 +7,12 @@ use Rattle.control.proofs.state.Controls.remove_target.Goals as goal
 
 pub returns-then-is_bad : goal.returns-then-is_bad
 returns-then-is_bad c =
-    target-refused c.args.self _ c.is_bad.ensures c.args.at 3 (rw c.if-is_bad.true) (omega arith)
+    rw c.refused.ensures (target-refused c.args.self _ c.is_bad.ensures c.args.at Refusal.Counts (rw c.if-is_bad.true) (omega arith))
 
 pub returns-then-next-ge-TARGETS : goal.returns-then-next-ge-TARGETS
 returns-then-next-ge-TARGETS c =
-    target-refused c.args.self _ c.is_bad.ensures c.args.at 9
-    (rw (c.if-is_bad.false, le-leb _ _ c.if-next-ge-TARGETS.true)) (omega arith)
+    rw c.refused-then-next-ge-TARGETS.ensures (target-refused c.args.self _ c.is_bad.ensures c.args.at Refusal.Targets
+    (rw (c.if-is_bad.false, le-leb _ _ c.if-next-ge-TARGETS.true)) (omega arith))
 
 pub returns : goal.returns
 returns c =

@@ -1,6 +1,0 @@
--- Each turn looks at one entry more.
-use Rattle.std.proofs.Common.{◌-◌}
-use Rattle.cases.proofs.case_walk.past_break.Given as goal
-
-abbrev pub decreases-loop-k : goal.decreases-loop-k
-decreases-loop-k l = l.at - l.k

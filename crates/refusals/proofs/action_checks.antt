@@ -1,2 +1,0 @@
--- Laws on plain numbers, for the proofs of the functions.
-pub mod LimitLaws

@@ -1,6 +1,0 @@
--- `same_ids` is safe and ends: each turn compares one id.
-use Rattle.std.proofs.Common.{◌-◌}
-use Rattle.replay.proofs.replay_line.same_ids.Given as goal
-
-abbrev pub decreases-loop-k : goal.decreases-loop-k
-decreases-loop-k l = l.to - l.k
