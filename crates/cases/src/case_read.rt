@@ -20,6 +20,10 @@ impl<const W: usize, const N: usize> Records<W, N> {
         }
     }
 
+    fn clear(&mut self) {
+        self.count = 0;
+    }
+
     pub fn len(&self) -> usize {
         self.count.min(N)
     }
@@ -71,12 +75,13 @@ pub struct Case {
     pub outcomes: [u8; 16],
 }
 
-// What the lines so far are: all before was run, or the settings of a case, or a case.
+// What the lines so far are: all before was run, or the settings of a case, or a case. The case itself is lent beside this: it is
+// large, and each line would copy it.
 #[derive(Clone, Copy)]
 pub enum State {
     Outside,
     Settings(Settings),
-    Case(Case),
+    Case,
 }
 
 fn read_range(words: &mut Words<'_>) -> Option<RuleIdRange> {
@@ -98,15 +103,15 @@ impl Settings {
         }))
     }
 
-    // A line of a case before its call. One range at most: no case has more.
-    pub fn read(mut self, word: &[u8], mut words: Words<'_>) -> Option<State> {
+    // A line of a case before its call, which begins the case. One range at most: no case has more.
+    pub fn read(mut self, word: &[u8], mut words: Words<'_>, case: &mut Case) -> Option<State> {
         match word {
             b"mode" if self.mode.is_none() => self.mode = Some(words.mode()?),
             b"block-status" if self.status.is_none() => {
                 self.status = Some(words.number()?).filter(|&n| n != 0);
             }
             b"entry-range" if self.range.is_none() => self.range = Some(read_range(&mut words)?),
-            b"call" => return self.read_call(words),
+            b"call" => return self.read_call(words, case),
             _ => return None,
         }
         words.end()?;
@@ -114,20 +119,17 @@ impl Settings {
     }
 
     // The call line is the last of the settings; mode and status must stand before it.
-    fn read_call(self, mut words: Words<'_>) -> Option<State> {
-        let phase = words.number().filter(|&n| n != 0)?;
+    fn read_call(self, mut words: Words<'_>, case: &mut Case) -> Option<State> {
+        case.phase = words.number().filter(|&n| n != 0)?;
         words.end()?;
-        Some(State::Case(Case {
-            name: self.name,
-            mode: self.mode?,
-            status: self.status?,
-            phase,
-            range: self.range,
-            rules: Records::new(),
-            actions: Records::new(),
-            markers: Records::new(),
-            outcomes: [0; 16],
-        }))
+        case.name = self.name;
+        case.mode = self.mode?;
+        case.status = self.status?;
+        case.range = self.range;
+        case.rules.clear();
+        case.actions.clear();
+        case.markers.clear();
+        Some(State::Case)
     }
 }
 
@@ -150,6 +152,21 @@ fn outcome_number(word: &[u8]) -> Option<u8> {
 }
 
 impl Case {
+    // Room for a case, before the first one.
+    pub fn new() -> Case {
+        Case {
+            name: Part { start: 0, len: 0 },
+            mode: RuleEngineMode::On,
+            status: 0,
+            phase: 0,
+            range: None,
+            rules: Records::new(),
+            actions: Records::new(),
+            markers: Records::new(),
+            outcomes: [0; 16],
+        }
+    }
+
     pub fn settings(&self) -> CallSettings {
         CallSettings {
             phase: self.phase,
@@ -159,13 +176,13 @@ impl Case {
     }
 
     // A line of a case after its call, but its end.
-    pub fn read(mut self, word: &[u8], words: Words<'_>) -> Option<State> {
+    pub fn read(&mut self, word: &[u8], words: Words<'_>) -> Option<State> {
         match word {
             b"rule" => self.read_rule(words)?,
             b"marker" => self.read_marker(words)?,
             _ => self.read_action(word, words)?,
         }
-        Some(State::Case(self))
+        Some(State::Case)
     }
 
     // A rule with its outcome.

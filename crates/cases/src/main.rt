@@ -33,12 +33,13 @@ impl From<io::Error> for CaseError {
     }
 }
 
-// Where the walks go, the input, and whether something was written before.
+// Where the walks go, the input, whether something was written before, and the case at hand.
 #[derive(Drop)]
 struct Run<'a, W> {
     output: W,
     text: &'a [u8],
     started: bool,
+    case: Case,
 }
 
 impl<W: Write> Run<'_, W> {
@@ -52,10 +53,10 @@ impl<W: Write> Run<'_, W> {
     }
 
     // A case at its `end`, which stands alone in its line.
-    fn run_case(&mut self, case: &Case, words: Words<'_>) -> Result<State, CaseError> {
+    fn run_case(&mut self, words: Words<'_>) -> Result<State, CaseError> {
         words.end().ok_or(CaseError::BadInput)?;
         self.write_gap()?;
-        Walk::run(self.text, case).write(&mut self.output)?;
+        Walk::run(self.text, &self.case).write(&mut self.output)?;
         Ok(State::Outside)
     }
 
@@ -83,9 +84,9 @@ impl<W: Write> Run<'_, W> {
             (State::Outside, b"ctl") => return self.run_directive(words),
             (State::Outside, b"case") => Settings::read_name(words),
             (State::Outside, _) => None,
-            (State::Settings(settings), _) => settings.read(word, words),
-            (State::Case(case), b"end") => return self.run_case(&case, words),
-            (State::Case(case), _) => case.read(word, words),
+            (State::Settings(settings), _) => settings.read(word, words, &mut self.case),
+            (State::Case, b"end") => return self.run_case(words),
+            (State::Case, _) => self.case.read(word, words),
         };
         next.ok_or(CaseError::BadInput)
     }
@@ -113,6 +114,7 @@ fn main(rt: HostRuntime) -> io::Result<()> {
         output: io::writer(&rt),
         text: &input[..n],
         started: false,
+        case: Case::new(),
     };
     let result = if n == INPUT {
         Err(CaseError::BadInput)

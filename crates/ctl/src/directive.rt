@@ -117,8 +117,11 @@ fn target_cut(value: &[u8], t: &[u8]) -> Option<usize>
         return None;
     }
     let id = trim::trim(&t[..cut]);
+    if id.is_empty() {
+        return None; // without a look at the other side, which may have many blanks in front
+    }
     let target = trim::trim(&t[cut + 1..]);
-    if id.is_empty() || target.is_empty() {
+    if target.is_empty() {
         return None;
     }
     Some(ascii::find(value, b';'))

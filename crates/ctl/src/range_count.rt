@@ -154,7 +154,8 @@ fn skip_commas(value: &[u8], at: usize) -> usize
 }
 
 // How many ranges a list has, or that it is unsupported. More commas are looked for only after an empty part: most parts are
-// numbers, and a look after each would slow them.
+// numbers, and a look after each would slow them. It leaves by `let .. else`: with `?` the compiler makes no loop of its own of a
+// number's digits, and a long list takes half as long again.
 pub fn count_ranges(value: &[u8]) -> Option<usize>
     ensures { result ≡ count_in (removal_value value.now) }
 {
@@ -167,7 +168,9 @@ pub fn count_ranges(value: &[u8]) -> Option<usize>
         i += 1;
         // commas and digits are most of a list, so they are asked for first
         if b == b',' {
-            let k = part_end(seen)?;
+            let Some(k) = part_end(seen) else {
+                return None;
+            };
             n += k;
             seen = part_start();
             if k == 0 {
@@ -176,10 +179,19 @@ pub fn count_ranges(value: &[u8]) -> Option<usize>
             continue;
         }
         if b.is_ascii_digit() {
-            seen = on_digit(seen, b)?;
+            let Some(next) = on_digit(seen, b) else {
+                return None;
+            };
+            seen = next;
             continue;
         }
-        seen = on_other(seen, b)?;
+        let Some(next) = on_other(seen, b) else {
+            return None;
+        };
+        seen = next;
     }
-    counted(n + part_end(seen)?)
+    let Some(k) = part_end(seen) else {
+        return None;
+    };
+    counted(n + k)
 }

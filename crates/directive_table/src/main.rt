@@ -6,6 +6,8 @@
 // A read or a write that fails ends the run with its error.
 #![tactic(auto)]
 
+ghost use Rattle.std.specs.Prelude.{◌≤◌, length, IfOk};
+
 use ctl::{directive, read};
 use input::read_full;
 use reading::{BodyAccess, BodyProcessor, CtlDirective, Refusal, RuleEngineMode};
@@ -34,15 +36,17 @@ struct Row {
 }
 
 // What a byte is as a digit; one that is none counts as 0.
-fn digit(b: u8) -> usize {
+fn digit(b: u8) -> usize
+    ensures { result ≤ 9 }
+{
     char::from(b).to_digit(10).map_or(0, |d| d as usize)
 }
 
-// The number that a field's first five bytes are. It never wraps.
+// The number that a field's first five bytes are.
 fn number(field: [u8; 6]) -> usize {
-    field[..5]
-        .iter()
-        .fold(0usize, |n, &b| n.wrapping_mul(10).wrapping_add(digit(b)))
+    let [a, b, c, d, e, _] = field;
+    let high = digit(a) * 10000 + digit(b) * 1000;
+    high + digit(c) * 100 + digit(d) * 10 + digit(e)
 }
 
 impl Row {
@@ -92,7 +96,9 @@ fn read_text<'a, R: Read>(
     text: &'a mut [u8],
     fill: usize,
     n: usize,
-) -> io::Result<&'a [u8]> {
+) -> io::Result<&'a [u8]>
+    ensures { IfOk result (λ t. length t.now ≤ length text.old) }
+{
     let end = fill.saturating_add(n);
     if text.len() < end {
         return Ok(&[]);
@@ -178,7 +184,8 @@ impl fmt::Display for Text<'_> {
         write!(f, "\"")?;
         for &b in self.0 {
             match b {
-                b'"' | b'\\' => write!(f, "\\{}", char::from(b))?,
+                b'"' => write!(f, "\\\"")?,
+                b'\\' => write!(f, "\\\\")?,
                 b' '..=b'~' => write!(f, "{}", char::from(b))?,
                 _ => write!(f, "\\x{b:02X}")?,
             }

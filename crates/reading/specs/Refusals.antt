@@ -97,7 +97,7 @@ refused8 q = ltb most_ranges (length q.transaction.controls.ranges + total (rule
 unfoldable pub refused9 : Call → Bool
 refused9 q = ltb most_targets (length q.transaction.controls.targets + total (rule_total q.given target_count) q.given.rules)
 
--- 01: "(Option ℕ) and order agree; the first that applies is the answer, else 0 or 10." 0: none applies.
+-- 01: "Number and order agree; the first that applies is the answer, else 0 or 10." 0: none applies.
 unfoldable pub refusal_of : Call → ℕ
 refusal_of q =
     cond (refused1 q) 1
